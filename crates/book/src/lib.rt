@@ -1,0 +1,3 @@
+// The list book: what every call on a pool means, over plain lists of entries.
+pub mod laws;
+pub mod refusal;
