@@ -2,3 +2,4 @@
 pub mod laws;
 pub mod refusal;
 pub mod reserve;
+pub mod sorted;
