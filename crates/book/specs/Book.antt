@@ -30,14 +30,15 @@ abbrev pub heldBelow : {E : Type 0} → (ℕ → Option (List E)) → ℕ → �
 heldBelow held zero = 0
 heldBelow held (suc n) = cond (isSome (held n)) 1 0 + heldBelow held n
 
--- the plan for the list under a number, or refusal 2
-abbrev pub under : {E S L : Type 0} → Book E → ℕ → (List E → Plan E S L) → Plan E S L
-under b n f = elim (b .held n) [ None ↦ stop (NotHeld n) | Some xs ↦ f xs ]
+-- the plan for the list that is held under a number, or refusal 2
+abbrev pub under : {E S L : Type 0} → ℕ → Option (List E) → (List E → Plan E S L) → Plan E S L
+under n None f = stop (NotHeld n)
+under n (Some xs) f = f xs
 
 abbrev pub read : {E S L : Type 0} → Book E → Reads E S L → Plan E S L
 read b (none p) = p
-read b (one n f) = under b n f
-read b (two n m f) = under b n (λ xs. under b m (f xs))
+read b (one n f) = under n (b .held n) f
+read b (two n m f) = under n (b .held n) (λ xs. under m (b .held m) (f xs))
 
 -- what a call comes to in a book: refusals 2 and 3 are looked at first
 abbrev pub plan : {E K S L : Type 0} → Ops E K S L → Book E → Call E K L → Plan E S L

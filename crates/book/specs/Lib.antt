@@ -5,4 +5,5 @@ pub mod Refusals
 pub mod Calls
 pub mod Book
 pub mod Run
+pub mod Declined
 pub mod Worked
