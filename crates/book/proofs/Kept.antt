@@ -1,12 +1,11 @@
 -- What holds of every element of a list, and which elements a test keeps.
 use mathlib.Core.Path.{_≡_, refl, subst}
-use mathlib.Core.Bool.{Bool, true, false, cond}
+use mathlib.Core.Bool.{Bool, false}
 use mathlib.Core.List.{List, [], _∷_}
 use Prim.Native.Nat.{ℕ, zero, suc}
 use native.Mathlib.Omega.{arith}
 use Rattle.std.proofs.shelf.Tests.{cond-both}
-use Rattle.std.specs.declared.option.Option.{Option}
-use Rattle.std.specs.declared.option.Option.the-variants.{Some, None}
+use Rattle.std.specs.declared.option.Option.the-variants.{Some}
 use Rattle.book.specs.Lists.{kept, All, position}
 
 module _ {E : Type 0} where
@@ -20,10 +19,11 @@ module _ {E : Type 0} where
       let i = all-kept P p xs (a .1) in
       cond-both (p x) (x ∷ kept p xs) (kept p xs) (All P) (λ e. (a .0, i)) (λ e. i)
 
-  pub kept-none : (p : E → Bool) (xs : List E) → All (λ x. p x ≡ false) xs → kept p xs ≡ []
-  kept-none p [] a = refl
-  kept-none p (x ∷ xs) a = rw (a .0) (kept-none p xs (a .1))
+  pub kept-none : (P : E → Type 0) (p : E → Bool) → ((x : E) → P x → p x ≡ false) → (xs : List E) → All P xs → kept p xs ≡ []
+  kept-none P p f [] a = refl
+  kept-none P p f (x ∷ xs) a = rw (f x (a .0)) (kept-none P p f xs (a .1))
 
+  -- what holds of every element holds of the one at a place
   pub all-at : (P : E → Type 0) (i : ℕ) (x : E) (xs : List E) → All P xs → position i xs ≡ Some x → P x
   all-at P i x [] a e = grind arith
   all-at P zero x (y ∷ ys) a e = let s : y ≡ x = cc in subst P s (a .0)

@@ -1,8 +1,13 @@
+pub mod Comparing
 pub mod Declining
+pub mod Finding
 pub mod Halving
 pub mod Kept
 pub mod Orderly
 pub mod Orders
+pub mod Picking
+pub mod Places
 pub mod Placing
 pub mod Rising
+pub mod Summing
 pub mod Sweeping

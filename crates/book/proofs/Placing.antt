@@ -13,7 +13,7 @@ use Rattle.std.specs.declared.option.Option.the-variants.{Some, None}
 use Rattle.std.specs.Holes.{inserted}
 use Rattle.kinds.specs.Kinds.{Ops, Laws}
 use Rattle.book.specs.Lists.{kept, All, Rising, find, rank, put}
-use Rattle.book.proofs.Kept.{all-map, kept-none}
+use Rattle.book.proofs.Kept.{kept-none}
 use Rattle.book.proofs.Orders.{Above, not-back, all-above, find-above}
 
 all-getD : {E : Type 0} (P : E → Type 0) (xs : List E) → All P xs → (i : ℕ) (d : E) → i < length xs → P (getD xs i d)
@@ -96,11 +96,9 @@ module _ {E K S L : Type 0} (o : Ops E K S L) where
     -- an entry that is not before e has nothing before e after it
     none-smaller : (x : E) (xs : List E) → Above o (o .key x) xs → smaller (o .key e) x ≡ false → rank o (o .key e) (x ∷ xs) ≡ 0
     none-smaller x xs a n =
-        let none = kept-none (smaller (o .key e)) (x ∷ xs) (n, all-map (λ y. o .less (o .key x) (o .key y) ≡ true) (λ y. smaller (o .key e) y ≡ false) later xs a) in
-        ap length none
-      where
-        later : (y : E) → o .less (o .key x) (o .key y) ≡ true → smaller (o .key e) y ≡ false
-        later y up = let t = laws .order .transitive (o .key x) (o .key y) (o .key e) up in grind arith
+        let later = λ (y : E). laws .order .transitive (o .key x) (o .key y) (o .key e) in
+        let none = kept-none (λ y. o .less (o .key x) (o .key y) ≡ true) (smaller (o .key e)) (λ y up. let t = later y up in grind arith) xs a in
+        omega (arith, kept-cons (smaller (o .key e)) false x xs n, ap length none)
 
     -- a first entry is before e exactly where the place of e is not the first
     first-not : (y : E) (ys : List E) → 0 ≡ rank o (o .key e) (y ∷ ys) → smaller (o .key e) y ≡ false

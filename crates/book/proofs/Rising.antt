@@ -9,8 +9,8 @@ use Rattle.std.specs.Options.{isSome}
 use Rattle.kinds.specs.Kinds.{Ops, Laws}
 use Rattle.book.specs.Lists.{kept, All, Rising, hasKey, within, passing, find, put, putAll, blended, merge, met, common}
 use Rattle.book.specs.Keyed.{KeepsRising}
-use Rattle.book.proofs.Orders.{Above, all-above, found-at}
 use Rattle.book.proofs.Kept.{all-kept}
+use Rattle.book.proofs.Orders.{Above, all-above, found-at}
 
 module _ {E K S L : Type 0} (o : Ops E K S L) (laws : Laws o) where
   -- the three ways of put at a first entry
@@ -36,7 +36,7 @@ module _ {E K S L : Type 0} (o : Ops E K S L) (laws : Laws o) where
   rising-build [] ys r = r
   rising-build (e ∷ es) ys r = rising-build es (put o e ys) (rising-put e ys r)
 
-  pub rising-kept : (p : E → Bool) (xs : List E) → Rising o xs → Rising o (kept p xs)
+  rising-kept : (p : E → Bool) (xs : List E) → Rising o xs → Rising o (kept p xs)
   rising-kept p [] r = tt
   rising-kept p (x ∷ xs) r =
       let i = rising-kept p xs (r .1) in
@@ -52,11 +52,11 @@ module _ {E K S L : Type 0} (o : Ops E K S L) (laws : Laws o) where
 
   -- the two ways of common at a first entry
   met-ways : (P : List E → Type 0) (x : E) (ys rest : List E) → P rest → ((e : E) → o .key e ≡ o .key x → P (e ∷ rest)) → P (met o x (find o (o .key x) ys) rest)
-  met-ways P x ys rest out in′ = go (find o (o .key x) ys) refl
+  met-ways P x ys rest left-out taken-in = go (find o (o .key x) ys) refl
     where
       go : (r : Option E) → find o (o .key x) ys ≡ r → P (met o x r rest)
-      go None e = out
-      go (Some y) e = in′ (o .blend x y) (met-key x y ys e)
+      go None e = left-out
+      go (Some y) e = taken-in (o .blend x y) (met-key x y ys e)
 
   all-common : (P : K → Type 0) (xs ys : List E) → All (λ x. P (o .key x)) xs → All (λ x. P (o .key x)) (common o xs ys)
   all-common P [] ys a = tt

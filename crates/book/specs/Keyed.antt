@@ -52,12 +52,12 @@ module _ {E K S L : Type 0} (o : Ops E K S L) where
 
   -- what find answers after an operation, from what it answers before
   pub record KeyByKey : Type 0 where
-    pub put : (k : K) (e : E) (xs : List E) → Rising o xs → find o k (put o e xs) ≡ cond (hasKey o k e) (Some e) (find o k xs)
+    pub put : (k : K) (e : E) (xs : List E) → find o k (put o e xs) ≡ cond (hasKey o k e) (Some e) (find o k xs)
     pub build : (k : K) (es : List E) → find o k (build o es) ≡ latest k es
     pub remove : (k j : K) (xs : List E) → find o k (remove o j xs) ≡ cond (sameKey o j k) None (find o k xs)
     pub window : (k low high : K) (xs : List E) → find o k (window o low high xs) ≡ cond (within o low high k) (find o k xs) None
     pub sift : (k : K) (l : L) (xs : List E) → Rising o xs → find o k (sift o l xs) ≡ ifSo (passing o l) (find o k xs)
-    pub merge : (k : K) (xs ys : List E) → Rising o xs → Rising o ys → find o k (merge o xs ys) ≡ eitherOf (find o k xs) (find o k ys)
+    pub merge : (k : K) (xs ys : List E) → Rising o ys → find o k (merge o xs ys) ≡ eitherOf (find o k xs) (find o k ys)
     pub common : (k : K) (xs ys : List E) → find o k (common o xs ys) ≡ bothOf (find o k xs) (find o k ys)
     pub without : (k : K) (xs ys : List E) → find o k (without o xs ys) ≡ cond (isSome (find o k ys)) None (find o k xs)
     -- and find tells all: two lists that answer alike at every key are one list

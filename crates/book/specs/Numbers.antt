@@ -1,7 +1,7 @@
 -- Binary digits, and the cells that a making call asks for.
-use mathlib.Core.Bool.{cond}
+use mathlib.Core.Bool.{Bool, cond}
 use Prim.Native.Nat.{ℕ, suc, zero, _+_, _*_, _/_, min}
-use lib.Dec.{eqb}
+use lib.Dec.{eqb, ltb}
 
 -- how often n can be halved until nothing is left, tried at most so often
 abbrev pub halvings : ℕ → ℕ → ℕ
@@ -36,3 +36,7 @@ largest = 4294967295
 
 abbrev pub capped : ℕ → ℕ
 capped n = min n largest
+
+-- where refusal 6 applies: the used cells and the reserve are more than there are
+abbrev pub exceeds : ℕ → ℕ → ℕ → Bool
+exceeds cells used reserve = ltb cells (used + reserve)

@@ -2,12 +2,12 @@
 use mathlib.Core.Path.{_≡_}
 use mathlib.Core.List.{List, [], _∷_}
 use mathlib.Core.Bool.{true, false}
-use Prim.Native.Nat.{ℕ, _≤_, _<_}
+use Prim.Native.Nat.{ℕ}
 use Rattle.kinds.specs.declared.slot.SlotRow.{SlotRow}
 use Rattle.kinds.specs.contracts.slot.SlotKind.the-impl.{ghosts}
-use Rattle.std.specs.declared.option.Option.the-variants.{Some, None}
-use Rattle.book.specs.Numbers.{digits, buildReserve}
-use Rattle.book.specs.Calls.{Call, build, put, remove, share, window, sift, without, giveBack, ask, compare, find, position, sum, page, size, Answer, given, returned, says, refused, entry, number, amount, entries, alike}
+use Rattle.std.specs.declared.option.Option.the-variants.{Some}
+use Rattle.book.specs.Numbers.{digits, buildReserve, exceeds}
+use Rattle.book.specs.Calls.{Call, build, put, remove, share, window, sift, without, giveBack, ask, compare, find, position, sum, page, Answer, given, returned, says, refused, entry, amount, entries, alike}
 use Rattle.book.specs.Book.{opened}
 use Rattle.book.specs.Run.{Event, Rights}
 use Rattle.book.specs.declared.refusal.Refusal.the-variants.{NotHeld, CrossedBounds, HoldsTaken}
@@ -40,15 +40,18 @@ events =
     ∷ (giveBack 10 ↝ returned) ∷ (without 7 12 ↝ given 13) ∷ (ask 13 (page 0 8) ↝ says (entries (A ∷ [])))
     ∷ []
 
-abbrev pub TenCases : Type 0
-TenCases = Rights (ghosts .ops) (opened 4 7) events
+-- every answer and refusal above is right, in a book with so many holds and this first number
+abbrev pub TenCases : ℕ → ℕ → Type 0
+TenCases holds first = Rights (ghosts .ops) (opened holds first) events
 
--- of 64 cells with none used, a build from 7 entries asks for 55 and one from 8 for 68
-pub record SmallBuilds : Type 0 where
-  pub none : digits 0 ≡ 0
+-- with so many cells and none used, a build from 7 entries is accepted, with reserve 55, and one from 8 is declined, with 68
+pub record SmallBuilds (cells : ℕ) : Type 0 where
+  pub seven : buildReserve 7 ≡ 55
+  pub accepted : exceeds cells 0 (buildReserve 7) ≡ false
+  pub eight : buildReserve 8 ≡ 68
+  pub declined : exceeds cells 0 (buildReserve 8) ≡ true
+
+pub record SmallDigits : Type 0 where
+  pub zero : digits 0 ≡ 0
   pub seven : digits 7 ≡ 3
   pub eight : digits 8 ≡ 4
-  pub fits : buildReserve 7 ≡ 55
-  pub room : buildReserve 7 ≤ 64
-  pub exceeds : buildReserve 8 ≡ 68
-  pub no-room : 64 < buildReserve 8
