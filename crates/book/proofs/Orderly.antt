@@ -71,8 +71,9 @@ module _ {E K S L : Type 0} (o : Ops E K S L) (laws : Laws o) where
       fresh = λ k h. let old = ok .fresh k (omega arith) in let n = ne-eqb k (b .next) (λ e. omega arith) in grind arith;
       rising = λ k ys e.
           elim (cases-bool (eqb k (b .next))) [
-            inl same ↦ let is : xs ≡ ys = grind arith in subst (Rising o) is r
-          | inr other ↦ ok .rising k ys (grind arith) ];
+            | inl same ↦ let is : xs ≡ ys = grind arith in subst (Rising o) is r
+            | inr other ↦ ok .rising k ys (grind arith)
+          ];
     }
 
     orderly-struck : (n : ℕ) → Orderly o (struck b n)
@@ -80,8 +81,9 @@ module _ {E K S L : Type 0} (o : Ops E K S L) (laws : Laws o) where
       fresh = λ k h. let old = ok .fresh k h in grind arith;
       rising = λ k ys e.
           elim (cases-bool (eqb k n)) [
-            inl same ↦ let never : _≡_ {A = ℕ} 0 1 = grind arith in absurd (omega arith)
-          | inr other ↦ ok .rising k ys (grind arith) ];
+            | inl same ↦ let never : _≡_ {A = ℕ} 0 1 = grind arith in absurd (omega arith)
+            | inr other ↦ ok .rising k ys (grind arith)
+          ];
     }
 
     orderly-made : (xs : List E) → Rising o xs → (d : Option Refusal) (six : Bool) → Orderly o (made b xs d six)

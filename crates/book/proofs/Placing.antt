@@ -46,8 +46,9 @@ module _ {E K S L : Type 0} (o : Ops E K S L) where
   rank-le k [] = omega arith
   rank-le k (x ∷ xs) =
       elim (cases-bool (smaller k x)) [
-        inl e ↦ omega (arith, kept-cons (smaller k) true x xs e, rank-le k xs)
-      | inr e ↦ omega (arith, kept-cons (smaller k) false x xs e, rank-le k xs) ]
+        | inl e ↦ omega (arith, kept-cons (smaller k) true x xs e, rank-le k xs)
+        | inr e ↦ omega (arith, kept-cons (smaller k) false x xs e, rank-le k xs)
+      ]
 
   -- where the search has narrowed to one place, that is the rank
   pub ranked : (k : K) (xs : List E) (low : ℕ) → Narrowed k xs low low → low ≡ rank o k xs
@@ -60,7 +61,7 @@ module _ {E K S L : Type 0} (o : Ops E K S L) where
       omega (arith, kept-cons (smaller k) true x xs (n .below 0 x (omega arith)))
 
   module _ (laws : Laws o) (k : K) (xs : List E) (rising : Rising o xs) (low high middle : ℕ) (n : Narrowed k xs low high)
-    (from : low ≤ middle) (to : middle < high) (x : E) (is : x ≡ getD xs middle x) where
+      (from : low ≤ middle) (to : middle < high) (x : E) (is : x ≡ getD xs middle x) where
     at-middle : (d : E) → getD xs middle d ≡ x
     at-middle d = sym (getD-read xs middle x (omega (arith, n .inside)) is d)
 
@@ -70,10 +71,11 @@ module _ {E K S L : Type 0} (o : Ops E K S L) where
       inside = n .inside;
       below = λ i d h.
           elim (cases-eq i middle) [
-            inl e ↦ subst (λ y. smaller k y ≡ true) (sym (ap (λ j. getD xs j d) e ∙ at-middle d)) less
-          | inr e ↦
-              let up = subst (λ y. o .less (o .key (getD xs i d)) (o .key y) ≡ true) (at-middle x) (rises-at xs rising i middle d x (omega arith) (omega (arith, n .inside))) in
-              laws .order .transitive (o .key (getD xs i d)) (o .key x) k up less ];
+            | inl e ↦ subst (λ y. smaller k y ≡ true) (sym (ap (λ j. getD xs j d) e ∙ at-middle d)) less
+            | inr e ↦
+                let up = subst (λ y. o .less (o .key (getD xs i d)) (o .key y) ≡ true) (at-middle x) (rises-at xs rising i middle d x (omega arith) (omega (arith, n .inside))) in
+                laws .order .transitive (o .key (getD xs i d)) (o .key x) k up less
+          ];
       above = n .above;
     }
 
@@ -84,12 +86,14 @@ module _ {E K S L : Type 0} (o : Ops E K S L) where
       below = n .below;
       above = λ i d h l.
           elim (cases-eq i middle) [
-            inl e ↦ subst (λ y. smaller k y ≡ false) (sym (ap (λ j. getD xs j d) e ∙ at-middle d)) not-less
-          | inr e ↦
-              let up = subst (λ y. o .less (o .key y) (o .key (getD xs i d)) ≡ true) (at-middle x) (rises-at xs rising middle i x d (omega arith) l) in
-              elim (cases-bool (smaller k (getD xs i d))) [
-                inl yes-less ↦ absurd (both-ways (smaller k x) not-less (laws .order .transitive (o .key x) (o .key (getD xs i d)) k up yes-less))
-              | inr no-less ↦ no-less ] ];
+            | inl e ↦ subst (λ y. smaller k y ≡ false) (sym (ap (λ j. getD xs j d) e ∙ at-middle d)) not-less
+            | inr e ↦
+                let up = subst (λ y. o .less (o .key y) (o .key (getD xs i d)) ≡ true) (at-middle x) (rises-at xs rising middle i x d (omega arith) l) in
+                elim (cases-bool (smaller k (getD xs i d))) [
+                  | inl yes-less ↦ absurd (both-ways (smaller k x) not-less (laws .order .transitive (o .key x) (o .key (getD xs i d)) k up yes-less))
+                  | inr no-less ↦ no-less
+                ]
+          ];
     }
 
   module _ (laws : Laws o) (e : E) where
@@ -108,8 +112,9 @@ module _ {E K S L : Type 0} (o : Ops E K S L) where
     first-is : (y : E) (ys : List E) (r : ℕ) → Rising o (y ∷ ys) → suc r ≡ rank o (o .key e) (y ∷ ys) → (smaller (o .key e) y ≡ true) × (r ≡ rank o (o .key e) ys)
     first-is y ys r rising is =
         elim (cases-bool (smaller (o .key e) y)) [
-          inl less ↦ (less, omega (arith, kept-cons (smaller (o .key e)) true y ys less))
-        | inr not-less ↦ absurd (omega (arith, none-smaller y ys (rising .0) not-less)) ]
+          | inl less ↦ (less, omega (arith, kept-cons (smaller (o .key e)) true y ys less))
+          | inr not-less ↦ absurd (omega (arith, none-smaller y ys (rising .0) not-less))
+        ]
 
     pub replaces : (xs : List E) → Rising o xs → (r : ℕ) → r ≡ rank o (o .key e) xs → (x : E) → r < length xs → x ≡ getD xs r x → o .less (o .key e) (o .key x) ≡ false →
         (put o e xs ≡ set xs r e) × (find o (o .key e) xs ≡ Some x)

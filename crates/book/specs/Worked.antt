@@ -3,8 +3,8 @@ use mathlib.Core.Path.{_≡_}
 use mathlib.Core.List.{List, [], _∷_}
 use mathlib.Core.Bool.{true, false}
 use Prim.Native.Nat.{ℕ}
-use Rattle.kinds.specs.declared.slot.SlotRow.{SlotRow}
-use Rattle.kinds.specs.contracts.slot.SlotKind.the-impl.{ghosts}
+use Rattle.kinds.specs.declared.rows.slot.SlotRow.{SlotRow}
+use Rattle.kinds.specs.contracts.rows.slot.SlotKind.the-impl.{ghosts}
 use Rattle.std.specs.declared.option.Option.the-variants.{Some}
 use Rattle.book.specs.Numbers.{digits, buildReserve, exceeds}
 use Rattle.book.specs.Calls.{Call, build, put, remove, share, window, sift, without, giveBack, ask, compare, find, position, sum, page, Answer, given, returned, says, refused, entry, amount, entries, alike}

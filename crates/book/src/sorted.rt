@@ -21,7 +21,9 @@ impl<K: Kind> SortedVec<K> {
     pub fn new(heap: Global) -> SortedVec<K>
         ensures { λ r. ⌜ vec-items (r .entries) ≡ [] ⌝ }
     {
-        SortedVec { entries: Vec::new(heap) }
+        SortedVec {
+            entries: Vec::new(heap),
+        }
     }
 
     pub fn as_slice(&self) -> &[K]
@@ -35,8 +37,8 @@ impl<K: Kind> SortedVec<K> {
         requires rises { ⌜ Rising (K·Kind .ops) (vec-items (now self .entries)) ⌝ }
         ensures rises { λ _. ⌜ Rising (K·Kind .ops) (vec-items (now (self .exit) .entries)) ⌝ }
         ensures after { λ r. ⌜ Cases r
-          (λ _. vec-items (now (self .exit) .entries) ≡ lists.put (K·Kind .ops) entry (vec-items (now (self .entry) .entries)))
-          (λ _. vec-items (now (self .exit) .entries) ≡ vec-items (now (self .entry) .entries)) ⌝ }
+            (λ _. vec-items (now (self .exit) .entries) ≡ lists.put (K·Kind .ops) entry (vec-items (now (self .entry) .entries)))
+            (λ _. vec-items (now (self .exit) .entries) ≡ vec-items (now (self .entry) .entries)) ⌝ }
         ensures replaced { λ r. ⌜ made r (λ b. b ≡ isSome (lists.find (K·Kind .ops) (K·Kind .ops .key entry) (vec-items (now (self .entry) .entries)))) ⌝ }
     {
         let place = rank(self.entries.as_slice(), entry.key());

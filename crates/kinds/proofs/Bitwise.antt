@@ -15,16 +15,16 @@ record Digitwise (f : ℕ → ℕ → ℕ → ℕ) : Type 0 where
   digit : (a b c : ℕ) → f a b c % 2 ≡ f (a % 2) (b % 2) (c % 2)
 
 module _ (f g : ℕ → ℕ → ℕ → ℕ) (df : Digitwise f) (dg : Digitwise g)
-  (at-zero : (b c : ℕ) → f 0 b c ≡ g 0 b c) (at-digits : (x y z : ℕ) → x < 2 → y < 2 → z < 2 → f x y z ≡ g x y z) where
+    (at-zero : (b c : ℕ) → f 0 b c ≡ g 0 b c) (at-digits : (x y z : ℕ) → x < 2 → y < 2 → z < 2 → f x y z ≡ g x y z) where
+  digit-more : (a : ℕ) → ((b c : ℕ) → f (a / 2) b c ≡ g (a / 2) b c) → (b c : ℕ) → f a b c ≡ g a b c
+  digit-more a halves b c =
+      let low = at-digits (a % 2) (b % 2) (c % 2) (mod-below a 2 (omega arith)) (mod-below b 2 (omega arith)) (mod-below c 2 (omega arith)) in
+      let high = df .half a b c ∙ halves (b / 2) (c / 2) ∙ sym (dg .half a b c) in
+      let rest = df .digit a b c ∙ low ∙ sym (dg .digit a b c) in
+      omega (arith, div-add-mod' (f a b c) 2, div-add-mod' (g a b c) 2)
+
   agree : (a b c : ℕ) → f a b c ≡ g a b c
-  agree =
-      bin-ind (λ (a : ℕ). (b c : ℕ) → f a b c ≡ g a b c) at-zero
-        (λ a ih b c.
-          let low : f (a % 2) (b % 2) (c % 2) ≡ g (a % 2) (b % 2) (c % 2) =
-            at-digits (a % 2) (b % 2) (c % 2) (mod-below a 2 (omega arith)) (mod-below b 2 (omega arith)) (mod-below c 2 (omega arith)) in
-          let high = df .half a b c ∙ ih (b / 2) (c / 2) ∙ sym (dg .half a b c) in
-          let rest = df .digit a b c ∙ low ∙ sym (dg .digit a b c) in
-          omega (arith, div-add-mod' (f a b c) 2, div-add-mod' (g a b c) 2))
+  agree = bin-ind (λ (a : ℕ). (b c : ℕ) → f a b c ≡ g a b c) at-zero digit-more
 
 or-left-digits : Digitwise (λ a b c. bitOr (bitOr a b) c)
 or-left-digits = record {

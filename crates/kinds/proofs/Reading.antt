@@ -29,23 +29,25 @@ pub none-wrong : (i : ℕ) (bs : List ℕ) → i + length bs ≤ firstWrong i bs
 none-wrong i [] h = refl
 none-wrong i (b ∷ bs) h =
     elim (cases-bool (allowed b)) [
-      inl a ↦
-        let on = cond-true (allowed b) (firstWrong (suc i) bs) i a in
-        let rest = none-wrong (suc i) bs (omega arith) in
-        cc
-    | inr a ↦
-        let off = cond-false (allowed b) (firstWrong (suc i) bs) i a in
-        absurd (omega arith) ]
+      | inl a ↦
+          let on = cond-true (allowed b) (firstWrong (suc i) bs) i a in
+          let rest = none-wrong (suc i) bs (omega arith) in
+          cc
+      | inr a ↦
+          let off = cond-false (allowed b) (firstWrong (suc i) bs) i a in
+          absurd (omega arith)
+    ]
 
 pub some-wrong : (i : ℕ) (bs : List ℕ) → firstWrong i bs < i + length bs → allAllowed bs ≡ false
 some-wrong i [] h = absurd (omega arith)
 some-wrong i (b ∷ bs) h =
     elim (cases-bool (allowed b)) [
-      inl a ↦
-        let on = cond-true (allowed b) (firstWrong (suc i) bs) i a in
-        let rest = some-wrong (suc i) bs (omega arith) in
-        cc
-    | inr a ↦ ap (λ (t : Bool). t && allAllowed bs) a ]
+      | inl a ↦
+          let on = cond-true (allowed b) (firstWrong (suc i) bs) i a in
+          let rest = some-wrong (suc i) bs (omega arith) in
+          cc
+      | inr a ↦ ap (λ (t : Bool). t && allAllowed bs) a
+    ]
 
 pub refused : (bs : List ℕ) (p : ℕ) → length bs ≡ 8 → p ≡ firstWrong 0 bs → p < 8 → reading bs ≡ Err p
 refused bs p long is short =
@@ -69,7 +71,7 @@ listed bs long =
     cc
 
 module _ (bs : List ℕ) (n : ℕ) (long : length bs ≡ 8) (small : (i : ℕ) → getD bs i 0 < 256) (right : 8 ≤ firstWrong 0 bs)
-  (is : n ≡ getD bs 0 0 * 72057594037927936 + getD bs 1 0 * 281474976710656 + getD bs 2 0 * 1099511627776 + getD bs 3 0 * 4294967296
+    (is : n ≡ getD bs 0 0 * 72057594037927936 + getD bs 1 0 * 281474976710656 + getD bs 2 0 * 1099511627776 + getD bs 3 0 * 4294967296
     + getD bs 4 0 * 16777216 + getD bs 5 0 * 65536 + getD bs 6 0 * 256 + getD bs 7 0) where
   writes : written 0 bs ≡ n
   writes = ap (written 0) (listed bs long) ∙ (omega arith)

@@ -23,8 +23,8 @@ written n (b ∷ bs) = written (n * 256 + b) bs
 -- the eight bytes that write a number below 2 ^ 64
 abbrev pub bytesOf : ℕ → List ℕ
 bytesOf n =
-  n / 72057594037927936 % 256 ∷ n / 281474976710656 % 256 ∷ n / 1099511627776 % 256 ∷ n / 4294967296 % 256
-  ∷ n / 16777216 % 256 ∷ n / 65536 % 256 ∷ n / 256 % 256 ∷ n % 256 ∷ []
+    n / 72057594037927936 % 256 ∷ n / 281474976710656 % 256 ∷ n / 1099511627776 % 256 ∷ n / 4294967296 % 256
+    ∷ n / 16777216 % 256 ∷ n / 65536 % 256 ∷ n / 256 % 256 ∷ n % 256 ∷ []
 
 -- a number that is a label
 abbrev pub isLabel : ℕ → Bool

@@ -1,13 +1,11 @@
-ghost use mathlib.Core.Bool.{_&&_, not, true, false};
+ghost use mathlib.Core.Bool.{true, false};
 ghost use mathlib.Core.Path.{_≡_};
-ghost use lib.Bits.{bitAnd, bitOr};
-ghost use lib.Dec.{ltb, eqb};
+ghost use lib.Dec.{ltb};
 ghost use Rattle.kinds.specs.Labels.{allowed, bytesOf, isLabel, firstWrong, reading};
 ghost use Rattle.std.specs.Options.{Cases as BySome};
 ghost use Rattle.std.specs.Results.{Cases as ByOk};
 ghost use Rattle.std.specs.Vec.{made};
 ghost use Rattle.std.specs.declared.result.Result.the-variants.{Ok, Err};
-use crate::kind::Kind;
 
 // The label of a cartridge: eight bytes, each A to Z or 0 to 9, as the number that they write with the first byte highest.
 // A table holds the number; a label is made from it, or from bytes, by its check.
@@ -35,7 +33,9 @@ impl Label {
         if place < 8 {
             return Err(NotALabel { place: place as u8 });
         }
-        Ok(Label { number: u64::from_be_bytes([*a, *b, *c, *d, *e, *f, *g, *h]) })
+        Ok(Label {
+            number: u64::from_be_bytes([*a, *b, *c, *d, *e, *f, *g, *h]),
+        })
     }
 
     // None where a byte of the number is not allowed.
@@ -85,65 +85,4 @@ fn first_wrong(bytes: &[u8]) -> usize
         }
     }
     bytes.len()
-}
-
-// A label with the slot and the class of its cartridge, as a row of plain numbers: the label as its number.
-#[derive(Clone, Copy)]
-pub struct LabelRow {
-    pub label: u64,
-    pub address: u16,
-    pub class: u8,
-}
-
-// By label. A sum has the bits of every class; it passes where it shares a set bit with the limit.
-pub impl Kind for LabelRow as LabelKind {
-    type Key = u64;
-
-    type Sum = u8;
-
-    type Limit = u8;
-
-    ghost ops = { record {
-      key = λ e. e .label;
-      less = ltb;
-      same = λ x y. eqb (x .label) (y .label) && eqb (x .address) (y .address) && eqb (x .class) (y .class);
-      measure = λ e. e .class;
-      combine = bitOr;
-      neutral = 0;
-      blend = λ x y. record { label = y .label; address = y .address; class = bitOr (x .class) (y .class) };
-      passes = λ s l. not (eqb (bitAnd s l) 0);
-      fits = λ _. true;
-    } };
-
-    fn key(self) -> u64 {
-        self.label
-    }
-
-    fn less(a: u64, b: u64) -> bool {
-        a < b
-    }
-
-    fn same(self, other: LabelRow) -> bool {
-        (self.label == other.label) & (self.address == other.address) & (self.class == other.class)
-    }
-
-    fn measure(self) -> u8 {
-        self.class
-    }
-
-    fn combine(a: u8, b: u8) -> u8 {
-        a | b
-    }
-
-    fn neutral() -> u8 {
-        0
-    }
-
-    fn blend(self, other: LabelRow) -> LabelRow {
-        LabelRow { label: other.label, address: other.address, class: self.class | other.class }
-    }
-
-    fn passes(sum: u8, limit: u8) -> bool {
-        sum & limit != 0
-    }
 }

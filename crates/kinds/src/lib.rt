@@ -2,4 +2,6 @@
 pub mod booking;
 pub mod kind;
 pub mod label;
-pub mod slot;
+pub mod rows;
+#[cfg(test)]
+mod tests;

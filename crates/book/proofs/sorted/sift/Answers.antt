@@ -24,13 +24,14 @@ loop-e-again g c =
     let done = vec-items (c .loop-e .passing) in
     let rest = sift (g .K·Kind .ops) (c .args .limit) (drop (i + 1) xs) in
     elim (c .if-passes .came) [
-      then-passes·in-Continue-push w ↦
-        let pushed = chosen _ _ _ _ (w .push .ensures .items) (ap isOk (w .in-Continue-push .was tt)) in
-        ap (λ v. vec-items v ++ rest) (w .passing-is) ∙ ap (λ l. l ++ rest) pushed
-        ∙ keep-more xs i (c .e-item .result) (c .loop-e-test .taken) (c .e-item .is) p done (tested g c _ (w .if-passes .taken)) ∙ c .loop-e .inv
-    | else-passes w ↦
-        ap (λ v. vec-items v ++ rest) (w .passing-is)
-        ∙ pass-over xs i (c .e-item .result) (c .loop-e-test .taken) (c .e-item .is) p done (tested g c _ (w .if-passes .left)) ∙ c .loop-e .inv ]
+      | then-passes·in-Continue-push w ↦
+          let pushed = chosen _ _ _ _ (w .push .ensures .items) (ap isOk (w .in-Continue-push .was tt)) in
+          ap (λ v. vec-items v ++ rest) (w .passing-is) ∙ ap (λ l. l ++ rest) pushed
+          ∙ keep-more xs i (c .e-item .result) (c .loop-e-test .taken) (c .e-item .is) p done (tested g c _ (w .if-passes .taken)) ∙ c .loop-e .inv
+      | else-passes w ↦
+          ap (λ v. vec-items v ++ rest) (w .passing-is)
+          ∙ pass-over xs i (c .e-item .result) (c .loop-e-test .taken) (c .e-item .is) p done (tested g c _ (w .if-passes .left)) ∙ c .loop-e .inv
+    ]
 
 pub returns : need.returns
 returns g c =

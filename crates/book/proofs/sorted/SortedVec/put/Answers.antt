@@ -50,11 +50,12 @@ before g c d inside =
     let o = g .K·Kind .ops in
     let xs = vec-items (c .args .self .now .entries) in
     elim (c .if-place-len .came) [
-      then-place-len·else-not-less w ↦
-        let there = getD-read xs (c .rank-place .result) (w .index-there .result .now) inside (w .index-there .ensures) d in
-        let less = (λ i. o .less (sym (w .key-then-place-len .ensures) i) (sym (w .key-then-place-len-2 .ensures) i)) ∙ sym (w .less .ensures) ∙ w .if-not-less .left in
-        subst (λ y. o .less (o .key (c .args .entry)) (o .key y) ≡ true) there less
-    | else-place-len w ↦ absurd (omega (arith, w .if-place-len .left, c .len .ensures, c .args .self .now .entries .ok .0)) ]
+      | then-place-len·else-not-less w ↦
+          let there = getD-read xs (c .rank-place .result) (w .index-there .result .now) inside (w .index-there .ensures) d in
+          let less = (λ i. o .less (sym (w .key-then-place-len .ensures) i) (sym (w .key-then-place-len-2 .ensures) i)) ∙ sym (w .less .ensures) ∙ w .if-not-less .left in
+          subst (λ y. o .less (o .key (c .args .entry)) (o .key y) ≡ true) there less
+      | else-place-len w ↦ absurd (omega (arith, w .if-place-len .left, c .len .ensures, c .args .self .now .entries .ok .0))
+    ]
 
 pub returns : need.returns
 returns g c =

@@ -3,7 +3,7 @@ use native.Mathlib.Omega.{arith}
 use borrow.Author.Needs.{needs}
 use lib.Bits.{or-zero-r}
 use Rattle.kinds.proofs.Bitwise.{or-assoc, shares-either}
-use Rattle.kinds.proofs.label.LabelKind.the-impl.Needs as need
+use Rattle.kinds.proofs.rows.label.LabelKind.the-impl.Needs as need
 
 pub lawful-law : need.lawful-law
 lawful-law = record {
