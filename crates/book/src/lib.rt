@@ -3,3 +3,5 @@ pub mod laws;
 pub mod refusal;
 pub mod reserve;
 pub mod sorted;
+#[cfg(test)]
+mod tests;

@@ -45,8 +45,7 @@ pub fn sift_reserve(entries: usize) -> u32
 pub fn build_reserve(entries: usize) -> u32
     ensures { λ r. ⌜ r ≡ capped (buildReserve entries) ⌝ }
 {
-    let steps = 12 * (binary_digits(entries) + 1);
-    cap(entries.saturating_add(steps as usize))
+    cap(entries.saturating_add(edit_reserve(entries) as usize))
 }
 
 fn cap(n: usize) -> u32

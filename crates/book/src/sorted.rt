@@ -41,7 +41,7 @@ impl<K: Kind> SortedVec<K> {
             (λ _. vec-items (now (self .exit) .entries) ≡ vec-items (now (self .entry) .entries)) ⌝ }
         ensures replaced { λ r. ⌜ made r (λ b. b ≡ isSome (lists.find (K·Kind .ops) (K·Kind .ops .key entry) (vec-items (now (self .entry) .entries)))) ⌝ }
     {
-        let place = rank(self.entries.as_slice(), entry.key());
+        let place = rank(self.as_slice(), entry.key());
         if place < self.entries.len() {
             let there = self.entries[place];
             if !K::less(entry.key(), there.key()) {

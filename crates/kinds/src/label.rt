@@ -51,7 +51,8 @@ impl Label {
     pub fn number(self) -> u64
         ensures { λ r. ⌜ (r ≡ self .number) × (isLabel r ≡ true) ⌝ }
     {
-        self.number
+        let Label { number } = self;
+        number
     }
 
     pub fn to_bytes(self) -> [u8; 8]

@@ -20,7 +20,7 @@ placed : (g : given.Over) (c : After-rank-place g) →
     c .rank-place .result ≡ rank (g .K·Kind .ops) (g .K·Kind .ops .key (c .args .entry)) (vec-items (c .args .self .now .entries))
 placed g c =
     let o = g .K·Kind .ops in
-    c .rank-place .ensures ∙ ap (λ k. rank o k (c .as-slice .result .now)) (c .key .ensures) ∙ ap (rank o (o .key (c .args .entry))) (c .as-slice .ensures .value)
+    c .rank-place .ensures ∙ ap (λ k. rank o k (c .as-slice .result .now)) (c .key .ensures) ∙ ap (rank o (o .key (c .args .entry))) (c .as-slice .ensures)
 
 pub returns-then-not-less : need.returns-then-not-less
 returns-then-not-less g c =
