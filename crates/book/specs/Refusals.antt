@@ -1,6 +1,8 @@
 -- The number of each refusal, and what it carries.
-use mathlib.Core.List.{List, [], _∷_}
+use mathlib.Core.List.{List, [], _∷_, _++_}
 use Prim.Native.Nat.{ℕ}
+use lib.Chars.{codes}
+use Rattle.std.specs.Written.{decimal}
 use Rattle.book.specs.declared.refusal.Refusal.{Refusal}
 use Rattle.book.specs.declared.refusal.Refusal.the-variants.{BadTables, NotHeld, CrossedBounds, HoldsTaken, NumbersSpent, NoRoom, NotALabel}
 
@@ -21,3 +23,12 @@ carriedBy HoldsTaken = []
 carriedBy NumbersSpent = []
 carriedBy (NoRoom used reserve) = used ∷ reserve ∷ []
 carriedBy (NotALabel place) = place ∷ []
+
+-- the numbers in decimal, each after a space
+abbrev pub spaced : List ℕ → List ℕ
+spaced [] = []
+spaced (n ∷ ns) = codes " " ++ (decimal n ++ spaced ns)
+
+-- how a refusal is printed: its number, then what it carries
+abbrev pub printed : Refusal → List ℕ
+printed r = decimal (numberOf r) ++ spaced (carriedBy r)

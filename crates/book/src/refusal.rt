@@ -1,5 +1,7 @@
 ghost use mathlib.Core.Path.{_≡_};
-ghost use Rattle.book.specs.Refusals.{numberOf};
+ghost use Rattle.book.specs.Refusals.{numberOf, printed};
+ghost use Rattle.std.specs.declared.option.Option.the-variants.{Some};
+use std::fmt;
 
 // Why a call is declined. They are looked at in this order, each where it applies.
 #[derive(Clone, Copy, PartialEq, Eq, Debug)]
@@ -32,6 +34,24 @@ impl Refusal {
             Refusal::NumbersSpent => 5,
             Refusal::NoRoom { .. } => 6,
             Refusal::NotALabel { .. } => 7,
+        }
+    }
+}
+
+// The number, then what the refusal carries: `6 0 68`.
+pub impl fmt::Display for Refusal as RefusalDisplay {
+    ghost shown = { λ r. Some (printed r) };
+
+    fn fmt<W: fmt::Write>(&self, f: &mut fmt::Formatter<W>) -> fmt::Result {
+        let refusal = self.number();
+        match self {
+            Refusal::NotHeld { number } => write!(f, "{refusal} {number}"),
+            Refusal::NoRoom { used, reserve } => write!(f, "{refusal} {used} {reserve}"),
+            Refusal::NotALabel { place } => write!(f, "{refusal} {place}"),
+            Refusal::BadTables
+            | Refusal::CrossedBounds
+            | Refusal::HoldsTaken
+            | Refusal::NumbersSpent => write!(f, "{refusal}"),
         }
     }
 }

@@ -1,4 +1,5 @@
 use crate::refusal::Refusal;
+use crate::refusal::RefusalDisplay;
 use crate::reserve::binary_digits;
 use crate::reserve::build_reserve;
 use crate::reserve::edit_reserve;
@@ -57,6 +58,17 @@ fn refusals_have_their_numbers() -> Result<(), Fail> {
         check_eq(refusal.number() as usize, before.saturating_add(1))?;
     }
     Ok(())
+}
+
+#[test]
+fn refusals_are_printed_with_what_they_carry(rt: LibcRuntime) -> Result<(), Fail> {
+    let refusal = Refusal::NoRoom {
+        used: 0,
+        reserve: 68,
+    };
+    check(format!(rt.alloc(), "{refusal}")?.as_str() == "6 0 68")?;
+    let refusal = Refusal::HoldsTaken;
+    check(format!(rt.alloc(), "{refusal}")?.as_str() == "4")
 }
 
 fn slot(address: u16, gigabytes: u32, day: u16) -> SlotRow {
