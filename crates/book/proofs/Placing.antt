@@ -11,10 +11,13 @@ use Rattle.std.proofs.shelf.Tests.{cases-bool, cases-eq, both-ways, cond-true, 
 use Rattle.std.specs.declared.option.Option.{Option}
 use Rattle.std.specs.declared.option.Option.the-variants.{Some, None}
 use Rattle.std.specs.Holes.{inserted}
+use Rattle.std.specs.Options.{isSome}
 use Rattle.kinds.specs.Kinds.{Ops, Laws}
 use Rattle.book.specs.Lists.{kept, All, Rising, find, rank, put}
+use Rattle.book.specs.Sorted.{StandsAt, GoesTo}
 use Rattle.book.proofs.Kept.{kept-none}
 use Rattle.book.proofs.Orders.{Above, not-back, all-above, find-above}
+use Rattle.book.proofs.Rising.{rising-put}
 
 all-getD : {E : Type 0} (P : E → Type 0) (xs : List E) → All P xs → (i : ℕ) (d : E) → i < length xs → P (getD xs i d)
 all-getD P [] a i d h = absurd (omega arith)
@@ -42,7 +45,7 @@ module _ {E K S L : Type 0} (o : Ops E K S L) where
   kept-cons p true x xs e = rw e
   kept-cons p false x xs e = rw e
 
-  pub rank-le : (k : K) (xs : List E) → rank o k xs ≤ length xs
+  rank-le : (k : K) (xs : List E) → rank o k xs ≤ length xs
   rank-le k [] = omega arith
   rank-le k (x ∷ xs) =
       elim (cases-bool (smaller k x)) [
@@ -96,49 +99,70 @@ module _ {E K S L : Type 0} (o : Ops E K S L) where
           ];
     }
 
-  module _ (laws : Laws o) (e : E) where
-    -- an entry that is not before e has nothing before e after it
-    none-smaller : (x : E) (xs : List E) → Above o (o .key x) xs → smaller (o .key e) x ≡ false → rank o (o .key e) (x ∷ xs) ≡ 0
+  module _ (laws : Laws o) (k : K) where
+    -- an entry that is not before k has nothing before k after it
+    none-smaller : (x : E) (xs : List E) → Above o (o .key x) xs → smaller k x ≡ false → rank o k (x ∷ xs) ≡ 0
     none-smaller x xs a n =
-        let later = λ (y : E). laws .order .transitive (o .key x) (o .key y) (o .key e) in
-        let none = kept-none (λ y. o .less (o .key x) (o .key y) ≡ true) (smaller (o .key e)) (λ y up. let t = later y up in grind arith) xs a in
-        omega (arith, kept-cons (smaller (o .key e)) false x xs n, ap length none)
+        let later = λ (y : E). laws .order .transitive (o .key x) (o .key y) k in
+        let none = kept-none (λ y. o .less (o .key x) (o .key y) ≡ true) (smaller k) (λ y up. let t = later y up in grind arith) xs a in
+        omega (arith, kept-cons (smaller k) false x xs n, ap length none)
 
-    -- a first entry is before e exactly where the place of e is not the first
-    first-not : (y : E) (ys : List E) → 0 ≡ rank o (o .key e) (y ∷ ys) → smaller (o .key e) y ≡ false
+    -- a first entry is before k exactly where the place of k is not the first
+    first-not : (y : E) (ys : List E) → 0 ≡ rank o k (y ∷ ys) → smaller k y ≡ false
     first-not y ys is =
-        elim (cases-bool (smaller (o .key e) y)) [ inl less ↦ absurd (omega (arith, kept-cons (smaller (o .key e)) true y ys less)) | inr not-less ↦ not-less ]
+        elim (cases-bool (smaller k y)) [ inl less ↦ absurd (omega (arith, kept-cons (smaller k) true y ys less)) | inr not-less ↦ not-less ]
 
-    first-is : (y : E) (ys : List E) (r : ℕ) → Rising o (y ∷ ys) → suc r ≡ rank o (o .key e) (y ∷ ys) → (smaller (o .key e) y ≡ true) × (r ≡ rank o (o .key e) ys)
+    first-is : (y : E) (ys : List E) (r : ℕ) → Rising o (y ∷ ys) → suc r ≡ rank o k (y ∷ ys) → (smaller k y ≡ true) × (r ≡ rank o k ys)
     first-is y ys r rising is =
-        elim (cases-bool (smaller (o .key e) y)) [
-          | inl less ↦ (less, omega (arith, kept-cons (smaller (o .key e)) true y ys less))
+        elim (cases-bool (smaller k y)) [
+          | inl less ↦ (less, omega (arith, kept-cons (smaller k) true y ys less))
           | inr not-less ↦ absurd (omega (arith, none-smaller y ys (rising .0) not-less))
         ]
 
-    pub replaces : (xs : List E) → Rising o xs → (r : ℕ) → r ≡ rank o (o .key e) xs → (x : E) → r < length xs → x ≡ getD xs r x → o .less (o .key e) (o .key x) ≡ false →
-        (put o e xs ≡ set xs r e) × (find o (o .key e) xs ≡ Some x)
+    replaces : (xs : List E) → Rising o xs → (r : ℕ) → r ≡ rank o k xs → (x : E) → r < length xs → x ≡ getD xs r x → o .less k (o .key x) ≡ false →
+        (find o k xs ≡ Some x) × ((e : E) → o .key e ≡ k → set xs r e ≡ put o e xs)
     replaces [] rising r is x h at n = absurd (omega arith)
     replaces (y ∷ ys) rising zero is x h at n =
         let first = first-not y ys is in
-        let before : o .less (o .key e) (o .key y) ≡ false = subst (λ z. o .less (o .key e) (o .key z) ≡ false) at n in
-        (grind arith, grind arith)
+        let before : o .less k (o .key y) ≡ false = subst (λ z. o .less k (o .key z) ≡ false) at n in
+        (grind arith, λ e same. grind arith)
     replaces (y ∷ ys) rising (suc r) is x h at n =
         let first = first-is y ys r rising is in
         let rest = replaces ys (rising .1) r (first .1) x (omega arith) at n in
-        let back = not-back o laws (o .key y) (o .key e) (first .0) in
-        (grind arith, grind arith)
+        let back = not-back o laws (o .key y) k (first .0) in
+        (grind arith, λ e same. let later = rest .1 e same in grind arith)
 
-    pub adds : (xs : List E) → Rising o xs → (r : ℕ) → r ≡ rank o (o .key e) xs → ((d : E) → r < length xs → o .less (o .key e) (o .key (getD xs r d)) ≡ true) →
-        (put o e xs ≡ inserted xs r e) × (find o (o .key e) xs ≡ None)
-    adds [] rising r is before = (ap (λ n. inserted [] n e) (sym is), refl)
+    adds : (xs : List E) → Rising o xs → (r : ℕ) → r ≡ rank o k xs → ((d : E) → r < length xs → o .less k (o .key (getD xs r d)) ≡ true) →
+        (find o k xs ≡ None) × ((e : E) → o .key e ≡ k → inserted xs r e ≡ put o e xs)
+    adds [] rising r is before = (refl, λ e same. ap (λ n. inserted [] n e) is)
     adds (y ∷ ys) rising zero is before =
         let first = first-not y ys is in
         let less = before y (omega arith) in
-        let none = find-above o laws (o .key e) ys (all-above o laws (o .key e) (o .key y) ys less (rising .0)) in
-        (grind arith, grind arith)
+        let none = find-above o laws k ys (all-above o laws k (o .key y) ys less (rising .0)) in
+        (grind arith, λ e same. grind arith)
     adds (y ∷ ys) rising (suc r) is before =
         let first = first-is y ys r rising is in
         let rest = adds ys (rising .1) r (first .1) (λ d h. before d (omega arith)) in
-        let back = not-back o laws (o .key y) (o .key e) (first .0) in
-        (grind arith, grind arith)
+        let back = not-back o laws (o .key y) k (first .0) in
+        (grind arith, λ e same. let later = rest .1 e same in grind arith)
+
+    module _ (xs : List E) (rising : Rising o xs) (r : ℕ) (is : r ≡ rank o k xs) where
+      pub stands-at : (x : E) → r < length xs → x ≡ getD xs r x → o .less k (o .key x) ≡ false → StandsAt o k xs r
+      stands-at x inside at n =
+          let found = replaces xs rising r is x inside at n in
+          record {
+            inside = inside;
+            there = ap isSome (found .0);
+            puts = found .1;
+            rises = λ e same. subst (Rising o) (sym (found .1 e same)) (rising-put o laws e xs rising);
+          }
+
+      pub goes-to : ((d : E) → r < length xs → o .less k (o .key (getD xs r d)) ≡ true) → GoesTo o k xs r
+      goes-to before =
+          let missing = adds xs rising r is before in
+          record {
+            inside = omega (arith, rank-le k xs);
+            absent = ap isSome (missing .0);
+            puts = missing .1;
+            rises = λ e same. subst (Rising o) (sym (missing .1 e same)) (rising-put o laws e xs rising);
+          }

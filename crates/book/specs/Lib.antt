@@ -1,4 +1,5 @@
 pub mod Lists
+pub mod Sorted
 pub mod Keyed
 pub mod Numbers
 pub mod Refusals

@@ -3,6 +3,7 @@ ghost use mathlib.Core.List.{[]};
 ghost use mathlib.Core.Path.{_≡_};
 ghost use Rattle.book.specs.Lists as lists;
 ghost use Rattle.book.specs.Lists.{Rising};
+ghost use Rattle.book.specs.Sorted.{StandsAt, GoesTo};
 ghost use Rattle.std.specs.Of.Vec.{vec-items};
 ghost use Rattle.std.specs.Options.{isSome};
 ghost use Rattle.std.specs.Results.{Cases};
@@ -41,17 +42,31 @@ impl<K: Kind> SortedVec<K> {
             (λ _. vec-items (now (self .exit) .entries) ≡ vec-items (now (self .entry) .entries)) ⌝ }
         ensures replaced { λ r. ⌜ made r (λ b. b ≡ isSome (lists.find (K·Kind .ops) (K·Kind .ops .key entry) (vec-items (now (self .entry) .entries)))) ⌝ }
     {
-        let place = rank(self.as_slice(), entry.key());
-        if place < self.entries.len() {
-            let there = self.entries[place];
-            if !K::less(entry.key(), there.key()) {
+        match seek(self.as_slice(), entry.key()) {
+            Ok(place) => {
                 self.entries[place] = entry;
-                return Ok(true);
+                Ok(true)
+            }
+            Err(place) => {
+                self.entries.insert(place, entry)?;
+                Ok(false)
             }
         }
-        self.entries.insert(place, entry)?;
-        Ok(false)
     }
+}
+
+// The place of the entry with a key, or the place where one would go, among entries whose keys rise.
+fn seek<K: Kind>(entries: &[K], key: K::Key) -> Result<usize, usize>
+    requires { ⌜ Rising (K·Kind .ops) (now entries) ⌝ }
+    ensures { λ r. ⌜ Cases r (StandsAt (K·Kind .ops) key (now (entries .entry))) (GoesTo (K·Kind .ops) key (now (entries .entry))) ⌝ }
+{
+    let place = rank(entries, key);
+    if place < entries.len() {
+        if !K::less(key, entries[place].key()) {
+            return Ok(place);
+        }
+    }
+    Err(place)
 }
 
 // How many keys are less than a key, among entries whose keys rise: by halving.
@@ -72,15 +87,28 @@ fn rank<K: Kind>(entries: &[K], key: K::Key) -> usize
     low
 }
 
+// A sum with one entry more, which comes after.
+fn with_next<K: Kind>(sum: K::Sum, entry: K) -> K::Sum
+    ensures { λ r. ⌜ r ≡ K·Kind .ops .combine sum (K·Kind .ops .measure entry) ⌝ }
+{
+    K::combine(sum, entry.measure())
+}
+
 // The sum of all entries, in their order.
 pub fn total<K: Kind>(entries: &[K]) -> K::Sum
     ensures { λ r. ⌜ r ≡ lists.total (K·Kind .ops) (now (entries .entry)) ⌝ }
 {
     let mut sum = K::neutral();
     for e in entries {
-        sum = K::combine(sum, e.measure());
+        sum = with_next(sum, *e);
     }
     sum
+}
+
+fn is_passing<K: Kind>(entry: K, limit: K::Limit) -> bool
+    ensures { λ r. ⌜ r ≡ lists.passing (K·Kind .ops) limit entry ⌝ }
+{
+    K::passes(entry.measure(), limit)
 }
 
 // The entries whose measure passes a limit, in their order.
@@ -89,7 +117,7 @@ pub fn sift<K: Kind>(heap: Global, entries: &[K], limit: K::Limit) -> Result<Vec
 {
     let mut passing = Vec::new(heap);
     for e in entries {
-        if K::passes(e.measure(), limit) {
+        if is_passing(*e, limit) {
             passing.push(*e)?;
         }
     }

@@ -9,7 +9,7 @@ use native.Mathlib.Numerals.{add-one}
 use lib.Dec.{eqb}
 use lib.ListN.{length, getD, drop}
 use Rattle.std.proofs.shelf.Lists.{at-drop-more, at-drop-all, drop-more, drop-all}
-use Rattle.std.proofs.shelf.Tests.{cases-bool, and-parts, cond-true, cond-false, eq-eqb}
+use Rattle.std.proofs.shelf.Tests.{cases-bool, and-parts, cases-eq, cond-true, cond-false, eq-eqb, ne-eqb}
 use Rattle.std.specs.declared.result.Result.{Result}
 use Rattle.std.specs.declared.result.Result.the-variants.{Ok, Err}
 use Rattle.kinds.specs.Labels.{allowed, allAllowed, written, bytesOf, isLabel, firstWrong, reading}
@@ -47,6 +47,21 @@ some-wrong i (b ∷ bs) h =
           let rest = some-wrong (suc i) bs (omega arith) in
           cc
       | inr a ↦ ap (λ (t : Bool). t && allAllowed bs) a
+    ]
+
+wrong-inside : (i : ℕ) (bs : List ℕ) → firstWrong i bs ≤ i + length bs
+wrong-inside i [] = omega arith
+wrong-inside i (b ∷ bs) =
+    elim (cases-bool (allowed b)) [
+      | inl a ↦ omega (arith, cond-true (allowed b) (firstWrong (suc i) bs) i a, wrong-inside (suc i) bs)
+      | inr a ↦ omega (arith, cond-false (allowed b) (firstWrong (suc i) bs) i a)
+    ]
+
+pub all-or-some : (bs : List ℕ) (p : ℕ) → p ≡ firstWrong 0 bs → eqb p (length bs) ≡ allAllowed bs
+all-or-some bs p is =
+    elim (cases-eq p (length bs)) [
+      | inl past ↦ eq-eqb p (length bs) past ∙ sym (none-wrong 0 bs (omega arith))
+      | inr inside ↦ ne-eqb p (length bs) inside ∙ sym (some-wrong 0 bs (omega (arith, wrong-inside 0 bs)))
     ]
 
 pub refused : (bs : List ℕ) (p : ℕ) → length bs ≡ 8 → p ≡ firstWrong 0 bs → p < 8 → reading bs ≡ Err p

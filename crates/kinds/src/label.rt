@@ -42,10 +42,11 @@ impl Label {
     pub fn from_number(number: u64) -> Option<Label>
         ensures { λ r. ⌜ BySome r (isLabel number ≡ false) (λ l. (l .number ≡ number) × (isLabel number ≡ true)) ⌝ }
     {
-        if first_wrong(&number.to_be_bytes()) < 8 {
-            return None;
+        if is_label(number) {
+            Some(Label { number })
+        } else {
+            None
         }
-        Some(Label { number })
     }
 
     pub fn number(self) -> u64
@@ -68,6 +69,12 @@ impl Label {
     {
         self.number < other.number
     }
+}
+
+fn is_label(number: u64) -> bool
+    ensures { λ r. ⌜ r ≡ isLabel number ⌝ }
+{
+    first_wrong(&number.to_be_bytes()) == 8
 }
 
 fn is_allowed(byte: u8) -> bool
