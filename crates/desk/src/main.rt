@@ -1,23 +1,11 @@
 // The support desk of a tape library. Its job so far is the overdue report: which cartridges of an inventory are due for a check.
-mod class;
-mod fault;
-mod line;
-mod note;
-mod report;
-mod row;
-mod show;
-#[cfg(test)]
-mod tests;
-mod text;
-mod words;
-
-use crate::fault::Field;
-use crate::line::number;
-use crate::report::Report;
-use crate::report::overdue_report;
-use crate::row::write_row;
-use crate::show::FaultDisplay;
-use crate::show::NoteDisplay;
+use inventory::fault::Field;
+use inventory::line::number;
+use inventory::report::Report;
+use inventory::report::overdue_report;
+use inventory::row::write_row;
+use inventory::show::FaultDisplay;
+use inventory::show::NoteDisplay;
 use std::env;
 use std::error::AnyError;
 use std::io::Read;

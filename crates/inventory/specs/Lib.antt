@@ -1,0 +1,4 @@
+pub mod Lines
+pub mod Rows
+pub mod Texts
+pub mod Reports
