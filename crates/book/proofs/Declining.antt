@@ -1,8 +1,8 @@
 -- The refusal that a call's plan comes to is the first that the table of refusals gives.
-use mathlib.Core.Path.{_≡_, refl, sym, ap, subst, _∙_}
-use mathlib.Core.Bool.{Bool, true, false, cond}
-use mathlib.Core.List.{List, [], _∷_}
-use mathlib.Core.Logic.{_⊎_, inl, inr}
+use mathlib.Core.Path.{_≡_, refl, sym, ap, subst}
+use mathlib.Core.Bool.{Bool, true, false}
+use mathlib.Core.List.{List}
+use mathlib.Core.Logic.{inl, inr}
 use native.Mathlib.Omega.{arith}
 use Prim.Native.Nat.{ℕ}
 use Rattle.std.proofs.shelf.Tests.{both-ways}
@@ -10,13 +10,13 @@ use Rattle.kinds.specs.Kinds.{Ops}
 use Rattle.std.specs.declared.option.Option.{Option}
 use Rattle.std.specs.declared.option.Option.the-variants.{Some, None}
 use Rattle.book.specs.Keyed.{orElse}
-use Rattle.book.specs.Calls.{Ask, find, size, position, rank, sum, page, Call, empty, share, build, put, remove, window, merge, common, without, sift, giveBack, ask, compare, pick, Answer, given, returned, says, refused, entry, Plan, stop, store, strike, tell, choose, Reads, none, one, two, meant, bounded, told}
+use Rattle.book.specs.Calls.{find, size, position, rank, sum, page, Call, empty, share, build, put, remove, window, merge, common, without, sift, giveBack, ask, compare, pick, Answer, given, returned, says, refused, entry, Plan, stop, store, strike, tell, choose, bounded}
 use Rattle.book.specs.Book.{Book, due, under, plan, made, moved, Made, Right}
 use Rattle.book.specs.Numbers.{capped}
 use Rattle.book.specs.Run.{isNoRoom}
-use Rattle.book.specs.Declined.{numbersOf, makes, missing, firstMissing, crossed, crossedBy, firstReason, InOrder}
+use Rattle.book.specs.Declined.{makes, missing, crossed, firstReason, InOrder}
 use Rattle.book.specs.declared.refusal.Refusal.{Refusal}
-use Rattle.book.specs.declared.refusal.Refusal.the-variants.{NotHeld, CrossedBounds, NoRoom}
+use Rattle.book.specs.declared.refusal.Refusal.the-variants.{NoRoom}
 
 abbrev isRefusal : {E S : Type 0} → Answer E S → Bool
 isRefusal (given n) = false

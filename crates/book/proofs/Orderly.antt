@@ -1,19 +1,19 @@
 -- A book stays orderly.
-use mathlib.Core.Path.{_≡_, refl, sym, ap, subst, _∙_}
-use mathlib.Core.Bool.{Bool, true, false, cond}
+use mathlib.Core.Path.{_≡_, refl, subst}
+use mathlib.Core.Bool.{Bool, true, false}
 use mathlib.Core.List.{List, [], _∷_}
 use mathlib.Core.Logic.{inl, inr}
-use Prim.Native.Nat.{ℕ, _+_, _≤_}
+use Prim.Native.Nat.{ℕ}
 use native.Mathlib.Omega.{arith}
 use lib.Dec.{eqb}
-use Rattle.std.proofs.shelf.Tests.{cases-bool, cond-true, cond-false, cond-both, eqb-true, ne-eqb}
+use Rattle.std.proofs.shelf.Tests.{cases-bool, cond-both, ne-eqb}
 use Rattle.std.specs.declared.option.Option.{Option}
 use Rattle.std.specs.declared.option.Option.the-variants.{Some, None}
 use Rattle.kinds.specs.Kinds.{Ops, Laws}
 use Rattle.book.specs.Lists.{Rising}
 use Rattle.book.specs.Keyed.{KeepsRising}
-use Rattle.book.specs.Calls.{Ask, find, size, position, rank, sum, page, Call, empty, share, build, put, remove, window, merge, common, without, sift, giveBack, ask, compare, pick, Plan, stop, store, strike, tell, choose, bounded}
-use Rattle.book.specs.Book.{Book, opened, due, under, plan, stored, struck, made, moved, step, Orderly}
+use Rattle.book.specs.Calls.{find, size, position, rank, sum, page, Call, empty, share, build, put, remove, window, merge, common, without, sift, giveBack, ask, compare, pick, Plan, stop, store, strike, tell, choose, bounded}
+use Rattle.book.specs.Book.{Book, opened, due, under, plan, stored, struck, made, moved, Orderly}
 use Rattle.book.specs.Run.{Event, toldSix, run, RunsOrderly}
 use Rattle.book.specs.declared.refusal.Refusal.{Refusal}
 use Rattle.book.proofs.Rising.{keeps-rising}

@@ -1,8 +1,8 @@
 -- The list book: its state, how a call moves it, and which answers are right.
 use mathlib.Core.Path.{_≡_}
-use mathlib.Core.Bool.{Bool, true, false, cond}
+use mathlib.Core.Bool.{Bool, cond}
 use mathlib.Core.Logic.{_⊎_}
-use mathlib.Core.List.{List, [], _∷_}
+use mathlib.Core.List.{List}
 use Prim.Native.Nat.{ℕ, suc, zero, _+_, _≤_}
 use lib.Dec.{eqb, leb, ltb}
 use Rattle.kinds.specs.Kinds.{Ops}
@@ -11,9 +11,9 @@ use Rattle.std.specs.declared.option.Option.the-variants.{Some, None}
 use Rattle.std.specs.Options.{isSome}
 use Rattle.book.specs.Lists.{Rising, Picked}
 use Rattle.book.specs.Numbers.{largest, capped}
-use Rattle.book.specs.Calls.{Call, Reply, entry, Answer, given, returned, says, refused, Plan, stop, store, strike, tell, choose, Reads, none, one, two, meant}
+use Rattle.book.specs.Calls.{Call, entry, Answer, given, returned, says, refused, Plan, stop, store, strike, tell, choose, Reads, none, one, two, meant}
 use Rattle.book.specs.declared.refusal.Refusal.{Refusal}
-use Rattle.book.specs.declared.refusal.Refusal.the-variants.{BadTables, NotHeld, CrossedBounds, HoldsTaken, NumbersSpent, NoRoom, NotALabel}
+use Rattle.book.specs.declared.refusal.Refusal.the-variants.{NotHeld, HoldsTaken, NumbersSpent, NoRoom}
 
 -- how many maps may be held at once, the next number, and the list under each held number
 pub record Book (E : Type 0) : Type 0 where

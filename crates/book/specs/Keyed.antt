@@ -2,14 +2,14 @@
 use mathlib.Core.Path.{_≡_}
 use mathlib.Core.Bool.{Bool, true, false, cond, _&&_}
 use mathlib.Core.List.{List, [], _∷_, _++_}
-use Prim.Native.Nat.{ℕ, _+_, _<_}
+use Prim.Native.Nat.{ℕ, _+_}
 use lib.Dec.{ltb}
 use lib.ListN.{length}
 use Rattle.kinds.specs.Kinds.{Ops}
 use Rattle.std.specs.declared.option.Option.{Option}
 use Rattle.std.specs.declared.option.Option.the-variants.{Some, None}
 use Rattle.std.specs.Options.{isSome}
-use Rattle.book.specs.Lists.{kept, All, position, page, Rising, sameKey, hasKey, within, passing, find, rank, put, build, remove, window, sift, without, merge, common, total, sum, equal, Picked}
+use Rattle.book.specs.Lists.{All, position, page, Rising, sameKey, hasKey, within, passing, find, rank, put, build, remove, window, sift, without, merge, common, total, sum, equal, Picked}
 
 -- x, unless it fails the test
 abbrev pub ifSo : {E : Type 0} → (E → Bool) → Option E → Option E

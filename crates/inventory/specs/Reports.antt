@@ -1,14 +1,11 @@
 -- What the overdue report tells of an inventory.
-use mathlib.Core.Path.{_≡_}
 use mathlib.Core.Bool.{cond}
 use mathlib.Core.List.{List, [], _∷_, _++_, map}
 use Prim.Native.Nat.{ℕ, suc}
-use lib.ListN.{length}
-use Rattle.std.specs.Of.Vec.{vec-items}
 use Rattle.std.specs.Options.{isSome}
 use Rattle.kinds.specs.declared.rows.slot.SlotRow.{SlotRow}
 use Rattle.kinds.specs.contracts.rows.slot.SlotKind.the-impl.{ghosts}
-use Rattle.book.specs.Lists.{find, put, build, total, sift}
+use Rattle.book.specs.Lists.{find, put, build}
 use Rattle.inventory.specs.Lines.{linesOf, meaning}
 use Rattle.inventory.specs.declared.line.Line.{Line}
 use Rattle.inventory.specs.declared.line.Line.the-variants.{Blank, Row, Refused}

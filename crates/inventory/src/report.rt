@@ -1,7 +1,9 @@
 // The overdue report, as values: the program only prints it.
 ghost use mathlib.Core.List.{[], _++_};
 ghost use mathlib.Core.Path.{_≡_};
+ghost use Prim.Native.Nat.{ℕ};
 ghost use lib.ListN.{length};
+ghost use Rattle.book.specs.Keyed.{ifSo, latest};
 ghost use Rattle.book.specs.Lists as lists;
 ghost use Rattle.inventory.specs.Lines.{linesOf};
 ghost use Rattle.inventory.specs.Reports.{after, remarks, noted, notesFrom, rowsOf, saying, inventory};
@@ -12,6 +14,8 @@ use crate::line::Line;
 use crate::note::Note;
 use crate::note::Remark;
 use crate::text::read_text;
+use book::laws::keys_keep_rising;
+use book::laws::told_key_by_key;
 use book::sorted::SortedVec;
 use book::sorted::sift;
 use book::sorted::total;
@@ -89,14 +93,19 @@ pub struct Report {
     pub overdue: Vec<SlotRow>,
 }
 
-// The report of an inventory, for checks that are due before a day.
+// The report of an inventory, for checks that are due before a day. Told by address: the last line with that address that is not
+// refused is overdue where its day is below the limit, and no other line is.
 pub fn overdue_report(heap: Global, text: &[u8], limit: u16) -> Result<Report, AllocError>
     ensures lines { λ r. ⌜ made r (λ p. p .lines ≡ length (linesOf (now (text .entry)))) ⌝ }
     ensures notes { λ r. ⌜ made r (λ p. vec-items (p .notes) ≡ notesFrom 1 [] (saying (now (text .entry)))) ⌝ }
     ensures cartridges { λ r. ⌜ made r (λ p. p .cartridges ≡ length (inventory (now (text .entry)))) ⌝ }
     ensures total { λ r. ⌜ made r (λ p. p .total ≡ lists.total (ghosts .ops) (inventory (now (text .entry)))) ⌝ }
     ensures overdue { λ r. ⌜ made r (λ p. vec-items (p .overdue) ≡ lists.sift (ghosts .ops) limit (inventory (now (text .entry)))) ⌝ }
+    ensures by_address { λ r. ⌜ made r (λ p. (a : ℕ) → lists.find (ghosts .ops) a (vec-items (p .overdue)) ≡ ifSo (lists.passing (ghosts .ops) limit) (latest (ghosts .ops) a (rowsOf (saying (now (text .entry)))))) ⌝ }
 {
+    // The laws of the book that the last clause rests on.
+    keys_keep_rising::<SlotRow>();
+    told_key_by_key::<SlotRow>();
     let said = read_text(heap, text)?;
     let stock = take_stock(heap, said.as_slice())?;
     let Stock { rows, notes } = stock;

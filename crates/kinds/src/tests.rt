@@ -1,9 +1,6 @@
 use crate::booking::Booking;
-use crate::kind::Kind;
 use crate::label::Label;
-use crate::label::NotALabel;
 use crate::label::NotALabelDebug;
-use crate::label::NotALabelPartialEq;
 use crate::rows::booking::BookingKind;
 use crate::rows::booking::BookingRow;
 use crate::rows::label::LabelKind;

@@ -1,5 +1,4 @@
 use mathlib.Core.Path.{refl}
-use native.Mathlib.Omega.{arith}
 use borrow.Author.Needs.{needs}
 use lib.Bits.{or-zero-r}
 use Rattle.kinds.proofs.Bitwise.{or-assoc, shares-either}
