@@ -24,6 +24,10 @@ carriedBy NumbersSpent = []
 carriedBy (NoRoom used reserve) = used ∷ reserve ∷ []
 carriedBy (NotALabel place) = place ∷ []
 
+-- what the label reader refuses, at a place
+abbrev pub labelRefusal : ℕ → Refusal
+labelRefusal place = NotALabel place
+
 -- the numbers in decimal, each after a space
 abbrev pub spaced : List ℕ → List ℕ
 spaced [] = []

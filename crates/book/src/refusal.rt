@@ -1,6 +1,7 @@
 ghost use mathlib.Core.Path.{_≡_};
-ghost use Rattle.book.specs.Refusals.{numberOf, printed};
+ghost use Rattle.book.specs.Refusals.{numberOf, labelRefusal, printed};
 ghost use Rattle.std.specs.declared.option.Option.the-variants.{Some};
+use kinds::label::NotALabel;
 use std::fmt;
 
 // Why a call is declined. They are looked at in this order, each where it applies.
@@ -34,6 +35,19 @@ impl Refusal {
             Refusal::NumbersSpent => 5,
             Refusal::NoRoom { .. } => 6,
             Refusal::NotALabel { .. } => 7,
+        }
+    }
+}
+
+// What the label reader refuses is refusal 7.
+pub impl From<NotALabel> for Refusal as RefusalFromLabel {
+    ghost converts = { λ refused r. r ≡ labelRefusal (refused .place) };
+
+    fn from(refused: NotALabel) -> Refusal
+        ensures { λ r. ⌜ r ≡ labelRefusal (refused .place) ⌝ }
+    {
+        Refusal::NotALabel {
+            place: refused.place,
         }
     }
 }

@@ -1,5 +1,8 @@
 use crate::refusal::Refusal;
+use crate::refusal::RefusalDebug;
 use crate::refusal::RefusalDisplay;
+use crate::refusal::RefusalFromLabel;
+use crate::refusal::RefusalPartialEq;
 use crate::reserve::binary_digits;
 use crate::reserve::build_reserve;
 use crate::reserve::edit_reserve;
@@ -9,6 +12,7 @@ use crate::reserve::window_reserve;
 use crate::sorted::SortedVec;
 use crate::sorted::sift;
 use crate::sorted::total;
+use kinds::label::Label;
 use kinds::rows::slot::SlotKind;
 use kinds::rows::slot::SlotRow;
 use std::test::*;
@@ -69,6 +73,23 @@ fn refusals_are_printed_with_what_they_carry(rt: LibcRuntime) -> Result<(), Fail
     check(format!(rt.alloc(), "{refusal}")?.as_str() == "6 0 68")?;
     let refusal = Refusal::HoldsTaken;
     check(format!(rt.alloc(), "{refusal}")?.as_str() == "4")
+}
+
+fn label_number(bytes: &[u8]) -> Result<u64, Refusal> {
+    Ok(Label::read(bytes)?.number())
+}
+
+#[test]
+fn the_label_reader_gives_refusal_7() -> Result<(), Fail> {
+    check_eq(label_number(b"A00001L8"), Ok(0x4130_3030_3031_4C38))?;
+    check_eq(
+        label_number(b"A0000-L8"),
+        Err(Refusal::NotALabel { place: 5 }),
+    )?;
+    check_eq(
+        label_number(b"A00001L"),
+        Err(Refusal::NotALabel { place: 8 }),
+    )
 }
 
 fn slot(address: u16, gigabytes: u32, day: u16) -> SlotRow {
