@@ -13,7 +13,7 @@ pub record Event (E K S L : Type 0) : Type 0 where
   pub call : Call E K L
   pub answer : Answer E S
 
--- whether an answer is refusal 6
+-- whether a refusal is 6
 abbrev pub isNoRoom : Refusal → Bool
 isNoRoom BadTables = false
 isNoRoom (NotHeld n) = false
@@ -23,6 +23,7 @@ isNoRoom NumbersSpent = false
 isNoRoom (NoRoom used reserve) = true
 isNoRoom (NotALabel place) = false
 
+-- whether an answer is refusal 6
 abbrev pub toldSix : {E S : Type 0} → Answer E S → Bool
 toldSix (given n) = false
 toldSix returned = false
