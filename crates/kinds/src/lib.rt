@@ -1,4 +1,6 @@
 // The kinds of entry that an ordered map can hold, and the types that carry a rule of their own.
+#![tactic(auto)]
+
 pub mod booking;
 pub mod kind;
 pub mod label;

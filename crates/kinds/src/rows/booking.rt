@@ -20,7 +20,7 @@ impl Kind for BookingRow {
 
     ghost ops = { record {
       key = λ e. e.start;
-      less = ltb;
+      less = nat_lt;
       same = λ x y. (x.start == y.start) && (x.end == y.end);
       measure = λ e. e.end;
       combine = max;

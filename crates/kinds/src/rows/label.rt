@@ -1,4 +1,4 @@
-ghost use Rattle.std.specs.Prelude.{true, not, ◌&&◌, ◌==◌, bit_and, bit-or, refl};
+ghost use Rattle.std.specs.Prelude.{true, not, ◌&&◌, ◌==◌, nat_lt, bit_and, bit_or, refl};
 ghost use Rattle.std.specs.Int.Bits.{or_zero_r};
 ghost use Rattle.std.proofs.Common.{rules};
 ghost use Rattle.kinds.specs.Bitwise.{or_assoc, shares_either};
@@ -23,12 +23,12 @@ impl Kind for LabelRow {
 
     ghost ops = { record {
       key = λ e. e.label;
-      less = ltb;
+      less = nat_lt;
       same = λ x y. (x.label == y.label) && x.address == y.address && (x.class == y.class);
       measure = λ e. e.class;
-      combine = bitOr;
+      combine = bit_or;
       neutral = 0;
-      blend = λ x y. record { label = y.label; address = y.address; class = bit-or x.class y.class };
+      blend = λ x y. record { label = y.label; address = y.address; class = bit_or x.class y.class };
       passes = λ s l. not (bit_and s l == 0);
       fits = λ _. true;
     } };

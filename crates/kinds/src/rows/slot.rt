@@ -23,7 +23,7 @@ impl Kind for SlotRow {
 
     ghost ops = { record {
       key = λ e. e.address;
-      less = ltb;
+      less = nat_lt;
       same = λ x y. (x.label == y.label) && x.gigabytes == y.gigabytes && x.address == y.address && (x.day == y.day);
       measure = λ e. (min e.gigabytes 18446744073709551615, min e.day 65535);
       combine = λ a b. (min (a.0 + b.0) 18446744073709551615, min a.1 b.1);

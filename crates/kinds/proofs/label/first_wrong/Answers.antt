@@ -4,7 +4,7 @@ use Rattle.kinds.proofs.label.first_wrong.Goals as goal
 
 pub loop-place-preserved : goal.loop-place-preserved
 loop-place-preserved c =
-    sym (goes_on c.args.bytes.now c.loop-place.place c.loop-place-test.true (sym c.if-not-is-allowed.ensures)) ∙ c.loop-place.invariant
+    sym (goes_on c.args.bytes.now c.loop-place.place c.loop-place-test.true (sym c.if-not-is_allowed.ensures)) ∙ c.loop-place.invariant
 
 pub returns-then-not-is-allowed : goal.returns-then-not-is-allowed
 returns-then-not-is-allowed c =

@@ -5,7 +5,7 @@ use Rattle.kinds.proofs.label.Label.read.Goals as goal
 
 pub returns-then-place-lt8 : goal.returns-then-place-lt8
 returns-then-place-lt8 c =
-    record { value = refused c.args.bytes.now c.first-wrong-place.result (omega (arith, ltb-false, ltb-true)) c.first-wrong-place.ensures c.if-place-lt8.true; undone = tt }
+    record { value = refused c.args.bytes.now c.first_wrong-place.result (omega (arith, ltb-false, ltb-true)) c.first_wrong-place.ensures c.if-place-lt8.true; undone = tt }
 
 pub invariant-of-result : goal.invariant-of-result
 invariant-of-result c =
@@ -16,6 +16,6 @@ pub returns : goal.returns
 returns c =
     let right : 8 ≤ first_wrong 0 c.args.bytes.now = omega arith in
     record {
-      value = reads c.args.bytes.now c.from-be-bytes.result (omega (arith, ltb-false, ltb-true)) (λ i. omega (arith, c.type-inv.bytes i)) right c.from-be-bytes.ensures;
-      undone = bytes_back c.args.bytes.now c.from-be-bytes.result (omega (arith, ltb-false, ltb-true)) (λ i. omega (arith, c.type-inv.bytes i)) right c.from-be-bytes.ensures;
+      value = reads c.args.bytes.now c.from_be_bytes.result (omega (arith, ltb-false, ltb-true)) (λ i. omega (arith, c.type-inv.bytes i)) right c.from_be_bytes.ensures;
+      undone = bytes_back c.args.bytes.now c.from_be_bytes.result (omega (arith, ltb-false, ltb-true)) (λ i. omega (arith, c.type-inv.bytes i)) right c.from_be_bytes.ensures;
     }
