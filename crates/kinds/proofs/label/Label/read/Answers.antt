@@ -7,15 +7,15 @@ pub returns-then-place-lt8 : goal.returns-then-place-lt8
 returns-then-place-lt8 c =
     record { value = refused c.args.bytes.now c.first_wrong-place.result (omega (arith, ltb-false, ltb-true)) c.first_wrong-place.ensures c.if-place-lt8.true; undone = tt }
 
-pub invariant-of-result : goal.invariant-of-result
-invariant-of-result c =
+pub invariant_of-result : goal.invariant_of-result
+invariant_of-result c =
     let right : 8 ≤ first_wrong 0 c.args.bytes.now = omega arith in
-    (is_label_lem c.args.bytes.now c.from-be-bytes.result (omega (arith, ltb-false, ltb-true)) (λ i. omega (arith, c.type-inv.bytes i)) right c.from-be-bytes.ensures, tt)
+    record { lettered = is_label_lem c.args.bytes.now c.from_be_bytes.result (omega (arith, ltb-false, ltb-true)) (λ i. omega (arith, c.type_inv.bytes i)) right c.from_be_bytes.ensures }
 
 pub returns : goal.returns
 returns c =
     let right : 8 ≤ first_wrong 0 c.args.bytes.now = omega arith in
     record {
-      value = reads c.args.bytes.now c.from_be_bytes.result (omega (arith, ltb-false, ltb-true)) (λ i. omega (arith, c.type-inv.bytes i)) right c.from_be_bytes.ensures;
-      undone = bytes_back c.args.bytes.now c.from_be_bytes.result (omega (arith, ltb-false, ltb-true)) (λ i. omega (arith, c.type-inv.bytes i)) right c.from_be_bytes.ensures;
+      value = reads c.args.bytes.now c.from_be_bytes.result (omega (arith, ltb-false, ltb-true)) (λ i. omega (arith, c.type_inv.bytes i)) right c.from_be_bytes.ensures;
+      undone = bytes_back c.args.bytes.now c.from_be_bytes.result (omega (arith, ltb-false, ltb-true)) (λ i. omega (arith, c.type_inv.bytes i)) right c.from_be_bytes.ensures;
     }
