@@ -8,7 +8,7 @@ returns c =
     let is = left_of_zeros n (omega arith) in
     record {
       value = is;
-      high-bound = subst (λ d. n < 2 ^ d) (sym is) (above n);
-      low-bound = subst (λ d. 0 < n → 2 ^ d ≤ 2 * n) (sym is) (below n);
+      high_bound = subst (λ d. n < 2 ^ d) (sym is) (above n);
+      low_bound = subst (λ d. 0 < n → 2 ^ d ≤ 2 * n) (sym is) (below n);
       bound = subst (λ d. d ≤ 64) (sym is) (few n (omega arith));
     }

@@ -3,7 +3,7 @@ use Rattle.std.proofs.ResultArms.{chosen}
 use Rattle.book.specs.Lists.{sift, passing}
 use Rattle.book.proofs.Sweeping.{keep_more, pass_over, kept_all}
 use Rattle.book.proofs.sorted.sift.Goals as goal
-use Rattle.book.proofs.sorted.sift.Goals.{then-is-passing+in-ok-push, else-is-passing}
+use Rattle.book.proofs.sorted.sift.Goals.{then-is_passing+in_ok-push, else-is_passing}
 
 pub loop-e-preserved : goal.loop-e-preserved
 loop-e-preserved g c =
@@ -12,14 +12,14 @@ loop-e-preserved g c =
     let i = c.loop-e.e-index in
     let done = vec_items c.loop-e.passing in
     let rest = sift g.K.Kind.ops c.args.limit (drop (i + 1) xs) in
-    elim c.if-is-passing.branch [
-      | then-is-passing+in-ok-push w ↦
-          let pushed = chosen _ _ _ _ w.push.ensures.items (ap is_ok w.in-ok-push.was) in
+    elim c.if-is_passing.branch [
+      | then-is_passing+in_ok-push w ↦
+          let pushed = chosen _ _ _ _ w.push.ensures.items (ap is_ok w.in_ok-push.was) in
           ap (λ v. vec_items v ++ rest) w.passing-is ∙ ap (λ l. l ++ rest) pushed
-          ∙ keep_more xs i c.e-item.result c.loop-e-test.true c.e-item.is p done (sym c.is-passing.ensures ∙ w.if-is-passing.true) ∙ c.loop-e.invariant
-      | else-is-passing w ↦
+          ∙ keep_more xs i c.e-item.result c.loop-e-test.true c.e-item.is p done (sym c.is_passing.ensures ∙ w.if-is_passing.true) ∙ c.loop-e.invariant
+      | else-is_passing w ↦
           ap (λ v. vec_items v ++ rest) w.passing-is
-          ∙ pass_over xs i c.e-item.result c.loop-e-test.true c.e-item.is p done (sym c.is-passing.ensures ∙ w.if-is-passing.false) ∙ c.loop-e.invariant
+          ∙ pass_over xs i c.e-item.result c.loop-e-test.true c.e-item.is p done (sym c.is_passing.ensures ∙ w.if-is_passing.false) ∙ c.loop-e.invariant
     ]
 
 pub returns : goal.returns

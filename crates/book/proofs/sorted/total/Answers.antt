@@ -9,7 +9,7 @@ loop-e-preserved g c =
     let o = g.K.Kind.ops in
     let xs = c.args.entries.now in
     let i = c.loop-e.e-index in
-    ap (λ s. summed o s (drop (i + 1) xs)) c.with-next-sum.ensures
+    ap (λ s. summed o s (drop (i + 1) xs)) c.with_next-sum.ensures
     ∙ sym (sum_more xs i c.e-item.result c.loop-e-test.true c.e-item.is o c.loop-e.sum) ∙ c.loop-e.invariant
 
 pub returns : goal.returns
