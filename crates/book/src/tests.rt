@@ -7,6 +7,11 @@ use kinds::label::Label;
 use kinds::rows::slot::SlotRow;
 use std::test::Fail;
 
+// With no contract, so that no proof works out the digits of so large a number one by one.
+fn largest() -> usize {
+    usize::MAX
+}
+
 #[test]
 fn digits_are_counted(rt: HostRuntime) {
     assert_eq!(rt; binary_digits(0), 0);
@@ -14,7 +19,7 @@ fn digits_are_counted(rt: HostRuntime) {
     assert_eq!(rt; binary_digits(7), 3);
     assert_eq!(rt; binary_digits(8), 4);
     assert_eq!(rt; binary_digits(65535), 16);
-    assert_eq!(rt; binary_digits(usize::MAX), 64);
+    assert_eq!(rt; binary_digits(largest()), 64);
 }
 
 #[test]
@@ -26,8 +31,8 @@ fn reserves_follow_the_table(rt: HostRuntime) {
         (30048, 30008)
     );
     assert_eq!(rt; (build_reserve(7), build_reserve(8)), (55, 68));
-    assert_eq!(rt; build_reserve(usize::MAX), u32::MAX, "capped");
-    assert_eq!(rt; pair_reserve(usize::MAX, usize::MAX), u32::MAX);
+    assert_eq!(rt; build_reserve(largest()), u32::MAX, "capped");
+    assert_eq!(rt; pair_reserve(largest(), largest()), u32::MAX);
     assert_eq!(rt;
         (sift_reserve(4294967287), sift_reserve(4294967288)),
         (4294967295, 4294967295)

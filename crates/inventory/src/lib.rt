@@ -1,4 +1,6 @@
 // Inventories of a tape library: what their lines say, and the report of the cartridges that are overdue for a check.
+#![tactic(auto)]
+
 mod class;
 pub mod fault;
 pub mod line;
