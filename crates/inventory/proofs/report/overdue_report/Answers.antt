@@ -10,19 +10,19 @@ use Rattle.inventory.proofs.report.overdue_report.Goals as goal
 pub returns : goal.returns
 returns c =
     let text = c.args.text.now in
-    let read = c.in-ok-said.ensures in
-    let said : c.as-slice.result.now ≡ saying text = c.as-slice.ensures.value ∙ read in
-    let stock = c.in-ok-stock.ensures in
-    let rows : vec_items c.in-ok-stock.stock.rows.entries ≡ inventory text = stock.rows ∙ ap (λ ls. build ghosts.ops (rows_of ls)) said in
-    let overdue = c.in-ok-overdue.ensures ∙ ap (sift ghosts.ops c.args.limit) (c.as-slice-3.ensures ∙ rows) in
-    let keyed = c.told-key-by-key.ensures in
+    let read = c.in_ok-said.ensures in
+    let said : c.as_slice.result.now ≡ saying text = c.as_slice.ensures.value ∙ read in
+    let stock = c.in_ok-stock.ensures in
+    let rows : vec_items c.in_ok-stock.stock.rows.entries ≡ inventory text = stock.rows ∙ ap (λ ls. build ghosts.ops (rows_of ls)) said in
+    let overdue = c.in_ok-overdue.ensures ∙ ap (sift ghosts.ops c.args.limit) (c.as_slice-3.ensures ∙ rows) in
+    let keyed = c.told_key_by_key.ensures in
     record {
-      lines = c.len.ensures ∙ c.in-ok-said.said.ok.0 ∙ ap length read ∙ length-map (lines_of text) meaning;
+      lines = c.len.ensures ∙ c.in_ok-said.said.ok.0 ∙ ap length read ∙ length-map (lines_of text) meaning;
       notes = stock.notes ∙ ap (notes_from 1 []) said;
-      cartridges = ap length (c.as-slice-cartridges.ensures ∙ rows);
-      total = c.total-total.ensures ∙ ap (total ghosts.ops) (c.as-slice-2.ensures ∙ rows);
+      cartridges = ap length (c.as_slice-cartridges.ensures ∙ rows);
+      total = c.total-total.ensures ∙ ap (total ghosts.ops) (c.as_slice-2.ensures ∙ rows);
       overdue = overdue;
       by_address = λ a.
-          ap (find ghosts.ops a) overdue ∙ keyed.sift a c.args.limit (inventory text) (c.keys-keep-rising.ensures.build (rows_of (saying text)))
+          ap (find ghosts.ops a) overdue ∙ keyed.sift a c.args.limit (inventory text) (c.keys_keep_rising.ensures.build (rows_of (saying text)))
           ∙ ap (if_so (passing ghosts.ops c.args.limit)) (keyed.build a (rows_of (saying text)));
     }

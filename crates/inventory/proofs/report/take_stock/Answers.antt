@@ -6,7 +6,7 @@ use Rattle.inventory.proofs.report.take_stock.Goals as goal
 
 pub loop-before-preserved : goal.loop-before-preserved
 loop-before-preserved c =
-    let new = c.in-ok-add.ensures in
+    let new = c.in_ok-add.ensures in
     let one = add-one c.loop-before.before in
     let line = get_or c.args.lines.now c.loop-before.before Blank in
     let notes = new.notes ∙ ap (λ n. vec_items c.loop-before.stock.notes ++ noted n (remarks line (vec_items c.loop-before.stock.rows.entries))) one in

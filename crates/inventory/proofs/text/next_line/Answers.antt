@@ -3,13 +3,13 @@ use Rattle.std.proofs.lemmas.List.{nil_from_length, take_rest}
 use Rattle.inventory.proofs.Lining.{cut, cut_last}
 use Rattle.inventory.proofs.text.next_line.Goals as goal
 
-pub returns-then-is-empty : goal.returns-then-is-empty
-returns-then-is-empty c = search (rules, nil_from_length)
+pub returns-then-is_empty : goal.returns-then-is_empty
+returns-then-is_empty c = search (rules, nil_from_length)
 
 pub returns-in-empty : goal.returns-in-empty
 returns-in-empty c =
-    cut_last c.args.text.now c.split-front.result.0.now c.split-front.result.1.now c.split-front.ensures.front c.split-front.ensures.rest (search rules) (search rules)
+    cut_last c.args.text.now c.split_front.result.0.now c.split_front.result.1.now c.split_front.ensures.front c.split_front.ensures.rest (search rules) (search rules)
 
 pub returns-in-len1-up : goal.returns-in-len1-up
 returns-in-len1-up c =
-    cut c.args.text.now c.split-front.result.0.now c.split-front.result.1.now c.split-front.ensures.front c.split-front.ensures.rest (search rules) _ (take_rest c.split-front.result.1.now 1)
+    cut c.args.text.now c.split_front.result.0.now c.split_front.result.1.now c.split_front.ensures.front c.split_front.ensures.rest (search rules) _ (take_rest c.split_front.result.1.now 1)
