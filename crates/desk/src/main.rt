@@ -1,4 +1,6 @@
 // The support desk of a tape library. Its job so far is the overdue report: which cartridges of an inventory are due for a check.
+#![tactic(auto)]
+
 use anyhow::anyhow;
 use inventory::fault::Field;
 use inventory::line::number;
