@@ -1,4 +1,6 @@
 // The layer of links: cells with two links each, counted references, the ring from which cells are taken, and walks. It knows nothing of entries.
+#![tactic(auto)]
+
 pub mod cells;
 pub mod holders;
 pub mod laws;
