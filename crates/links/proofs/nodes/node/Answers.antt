@@ -8,8 +8,8 @@ use Rattle.links.proofs.nodes.node.Goals as goal
 
 pub over-requires : goal.over-requires
 over-requires c =
-    let l = c.link-of-l.ensures in
-    let r = c.link-of-r.ensures in
+    let l = c.link_of-l.ensures in
+    let r = c.link_of-r.ensures in
     record {
       count = omega (arith, c.requires.count, ap count_in l, ap count_in r);
       left_levels = omega (arith, c.requires.left_levels, ap levels_in l);
@@ -22,8 +22,8 @@ returns c =
     let cell : ℕ = c.args.cell in
     let i : ℕ = c.place.result in
     let v : Link = c.over.result in
-    let l = c.link-of-l.ensures in
-    let r = c.link-of-r.ensures in
+    let l = c.link_of-l.ensures in
+    let r = c.link_of-r.ensures in
     let here = at_same ls cell i v c.place.ensures c.requires.low c.requires.high in
     let wrote : Wrote ls (set ls i v) cell c.args.left c.args.right =
     record {

@@ -4,8 +4,8 @@ use Rattle.links.proofs.ring.begin.Goals as goal
 
 pub returns : goal.returns
 returns c =
-    let k = c.with-left.ensures in
+    let k = c.with_left.ensures in
     record {
       stays = k.last;
-      begun = begun c.args.links.now c.with-left.result (record { last = omega (arith, c.requires.ring.last); left = omega arith }) k.left;
+      begun = begun c.args.links.now c.with_left.result (record { last = omega (arith, c.requires.ring.last); left = omega arith }) k.left;
     }

@@ -14,12 +14,12 @@ overflow-cast-steps c =
 
 pub pass-requires : goal.pass-requires
 pass-requires c =
-    let next = c.next-unused-cell.ensures in
-    omega (arith, steps_left c.args.links.now c.args.cursor c.requires.ring c.requires.some c.next-unused-cell.result next.unused next.next)
+    let next = c.next_unused-cell.ensures in
+    omega (arith, steps_left c.args.links.now c.args.cursor c.requires.ring c.requires.some c.next_unused-cell.result next.unused next.next)
 
 pub returns : goal.returns
 returns c =
-    let next = c.next-unused-cell.ensures in
-    took c.args.links.now c.args.cursor c.requires.ring c.requires.some c.next-unused-cell.result next.unused next.next
-    (record { cell = c.next-unused-cell.result; cursor = c.pass.result })
-    refl c.pass.ensures.last (c.pass.ensures.left ∙ ap (λ x. c.args.cursor.left - x) c.steps-to-steps.ensures)
+    let next = c.next_unused-cell.ensures in
+    took c.args.links.now c.args.cursor c.requires.ring c.requires.some c.next_unused-cell.result next.unused next.next
+    (record { cell = c.next_unused-cell.result; cursor = c.pass.result })
+    refl c.pass.ensures.last (c.pass.ensures.left ∙ ap (λ x. c.args.cursor.left - x) c.steps_to-steps.ensures)

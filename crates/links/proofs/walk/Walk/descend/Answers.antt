@@ -10,10 +10,10 @@ pub left-of-n-requires : goal.left-of-n-requires
 left-of-n-requires c = (going_sides c.loop-n.invariant c.loop-n-test.true).stands.high
 
 pub loop-n-smaller : goal.loop-n-smaller
-loop-n-smaller c = going_falls c.loop-n.invariant c.loop-n-test.true to_left c.left-of-n.result c.left-of-n.ensures
+loop-n-smaller c = going_falls c.loop-n.invariant c.loop-n-test.true to_left c.left_of-n.result c.left_of-n.ensures
 
 pub loop-n-preserved : goal.loop-n-preserved
-loop-n-preserved c = going_left c.loop-n.invariant c.loop-n-test.true _ c.left-of-n.type-inv c.left-of-n.ensures (omega arith)
+loop-n-preserved c = going_left c.loop-n.invariant c.loop-n-test.true _ c.left_of-n.type_inv c.left_of-n.ensures (omega arith)
 
 pub returns : goal.returns
 returns c t cells s p =

@@ -17,7 +17,7 @@ right-of-right-requires c = (pending_last _ _ _ _ c.requires.some c.requires.wal
 pub descend-requires : goal.descend-requires
 descend-requires c =
     let w = pending_last _ _ _ _ c.requires.some c.requires.walk.1 in
-    subst (λ (n : ℕ). RoomFor c.args.links.now n (c.args.self.now.depth - 1)) (sym c.right-of-right.ensures)
+    subst (λ (n : ℕ). RoomFor c.args.links.now n (c.args.self.now.depth - 1)) (sym c.right_of-right.ensures)
     (record { tree = w.right; stands = w.stands; room = omega (arith, w.room, levels_told _ _ w.right w.stands) })
 
 pub returns : goal.returns
@@ -26,7 +26,7 @@ returns c =
       cell = λ cells p. sym (ap first (pending_last _ _ _ _ c.requires.some p).are);
       rest = λ cells p.
           let w = pending_last _ _ _ _ c.requires.some p in
-          let right : Stands c.args.links.now c.right-of-right.result w.right =
-          subst (λ (n : ℕ). Stands c.args.links.now n w.right) (sym c.right-of-right.ensures) w.stands in
+          let right : Stands c.args.links.now c.right_of-right.result w.right =
+          subst (λ (n : ℕ). Stands c.args.links.now n w.right) (sym c.right_of-right.ensures) w.stands in
           rw (ap (drop 1) w.are) (c.descend.ensures w.right w.rest right w.below);
     }
