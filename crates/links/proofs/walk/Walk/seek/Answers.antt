@@ -24,7 +24,7 @@ loop-n-smaller-then-skip-before c =
 pub loop-n-preserved-then-skip-before : goal.loop-n-preserved-then-skip-before
 loop-n-preserved-then-skip-before c =
     let few = rw (c.count_of-before.ensures, c.left-left.ensures, c.link_of-link.ensures) at c.if-skip-before.true in
-    going_left c.loop-n.invariant c.loop-n-test.true _ c.left-left.ok (c.left-left.ensures ∙ ap left_in c.link_of-link.ensures) few
+    going_left c.loop-n.invariant c.loop-n-test.true _ c.left-left.type-inv (c.left-left.ensures ∙ ap left_in c.link_of-link.ensures) few
 
 pub loop-n-smaller : goal.loop-n-smaller
 loop-n-smaller c =
@@ -33,7 +33,7 @@ loop-n-smaller c =
 pub loop-n-preserved : goal.loop-n-preserved
 loop-n-preserved c =
     let before : c.count_of-before.result ≡ count_of c.args.links.now (left_of c.args.links.now c.loop-n.n) = cc in
-    going_right c.loop-n.invariant c.loop-n-test.true _ _ c.right-right.type-inv (c.right-right.ensures ∙ ap right_in c.link-of-link.ensures) (omega arith)
+    going_right c.loop-n.invariant c.loop-n-test.true _ _ c.right-right.ok (c.right-right.ensures ∙ ap right_in c.link-of-link.ensures) (omega arith)
 
 pub returns : goal.returns
 returns c t s =
