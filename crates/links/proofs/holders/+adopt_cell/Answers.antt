@@ -16,14 +16,14 @@ raise-requires t c =
 
 pub returns-then-refs-gt0 : goal.returns-then-refs-gt0
 returns-then-refs-gt0 t c =
-    adopted_live c.args.links.now c.raise.new.links c.args.cell c.requires.low c.requires.high c.raise.ensures (omega (arith, ap refs_in c.link-of-link.ensures))
+    adopted_live c.args.links.now c.raise.new.links c.args.cell c.requires.low c.requires.high c.raise.ensures (omega (arith, ap refs_in c.link_of-link.ensures))
 
-pub adopt-cell-made-requires : goal.adopt-cell-made-requires
-adopt-cell-made-requires t c =
+pub adopt_cell-made-requires : goal.adopt_cell-made-requires
+adopt_cell-made-requires t c =
     let ls : List Link = c.args.links.now in
     let l : ℕ = c.sides-left.result.0 in
     let r : ℕ = c.sides-left.result.1 in
-    let p = fresh ls c.args.cell c.requires.low c.requires.tree c.link-of-link.result c.link-of-link.ensures (omega arith) l r c.sides-left.ensures.left c.sides-left.ensures.right in
+    let p = fresh ls c.args.cell c.requires.low c.requires.tree c.link_of-link.result c.link_of-link.ensures (omega arith) l r c.sides-left.ensures.left c.sides-left.ensures.right in
     let m : levels_of ls c.args.cell ≡ t = c.decreases in
     let low = left_lower ls c.args.cell l r p in
     let less : levels_of ls l < t = omega arith in
@@ -31,16 +31,16 @@ adopt-cell-made-requires t c =
     let (rs, k) = c.requires.counted in
     (less, (c.requires.few, (omega arith, (stands_low ls l tree.tree tree.stands, (tree, (rs, (k.0, omega (arith, k.1))))))))
 
-pub adopt-cell-more-requires : goal.adopt-cell-more-requires
-adopt-cell-more-requires t c =
+pub adopt_cell-more-requires : goal.adopt_cell-more-requires
+adopt_cell-more-requires t c =
     let ls : List Link = c.args.links.now in
     let l : ℕ = c.sides-left.result.0 in
     let r : ℕ = c.sides-left.result.1 in
-    let p = fresh ls c.args.cell c.requires.low c.requires.tree c.link-of-link.result c.link-of-link.ensures (omega arith) l r c.sides-left.ensures.left c.sides-left.ensures.right in
+    let p = fresh ls c.args.cell c.requires.low c.requires.tree c.link_of-link.result c.link_of-link.ensures (omega arith) l r c.sides-left.ensures.left c.sides-left.ensures.right in
     let first : Adopted c.args.links.now c.if-left-eq0.links c.sides-left.result.0 c.if-left-eq0.made =
     elim c.if-left-eq0.branch [
       | then-left-eq0 w ↦ rw (w.links-is, w.made-is) (adopted_none c.args.links.now c.sides-left.result.0 w.if-left-eq0.true)
-      | else-left-eq0 w ↦ rw (w.links-is, w.made-is) w.adopt-cell-made.ensures
+      | else-left-eq0 w ↦ rw (w.links-is, w.made-is) w.adopt_cell-made.ensures
     ] in
     let ms : List Link = c.if-left-eq0.links in
     let m : levels_of ls c.args.cell ≡ t = c.decreases in
@@ -55,16 +55,16 @@ raise-requires-2 t c =
     let ls : List Link = c.args.links.now in
     let l : ℕ = c.sides-left.result.0 in
     let r : ℕ = c.sides-left.result.1 in
-    let p = fresh ls c.args.cell c.requires.low c.requires.tree c.link-of-link.result c.link-of-link.ensures (omega arith) l r c.sides-left.ensures.left c.sides-left.ensures.right in
+    let p = fresh ls c.args.cell c.requires.low c.requires.tree c.link_of-link.result c.link_of-link.ensures (omega arith) l r c.sides-left.ensures.left c.sides-left.ensures.right in
     let first : Adopted c.args.links.now c.if-left-eq0.links c.sides-left.result.0 c.if-left-eq0.made =
     elim c.if-left-eq0.branch [
       | then-left-eq0 w ↦ rw (w.links-is, w.made-is) (adopted_none c.args.links.now c.sides-left.result.0 w.if-left-eq0.true)
-      | else-left-eq0 w ↦ rw (w.links-is, w.made-is) w.adopt-cell-made.ensures
+      | else-left-eq0 w ↦ rw (w.links-is, w.made-is) w.adopt_cell-made.ensures
     ] in
     let second : Adopted c.if-left-eq0.links c.if-right-eq0.links c.sides-left.result.1 c.if-right-eq0.more =
     elim c.if-right-eq0.branch [
       | then-right-eq0 w ↦ rw (w.links-is, w.more-is) (adopted_none c.if-left-eq0.links c.sides-left.result.1 w.if-right-eq0.true)
-      | else-right-eq0 w ↦ rw (w.links-is, w.more-is) w.adopt-cell-more.ensures
+      | else-right-eq0 w ↦ rw (w.links-is, w.more-is) w.adopt_cell-more.ensures
     ] in
     record {
       low = c.requires.low;
@@ -72,17 +72,17 @@ raise-requires-2 t c =
       small = omega (arith, still_unused ls c.args.cell l r p c.if-left-eq0.links c.if-left-eq0.made first c.if-right-eq0.links c.if-right-eq0.more second);
     }
 
-pub overflow-add-result-2 : goal.overflow-add-result-2
-overflow-add-result-2 t c =
+pub overflow_add-result-2 : goal.overflow_add-result-2
+overflow_add-result-2 t c =
     let first : Adopted c.args.links.now c.if-left-eq0.links c.sides-left.result.0 c.if-left-eq0.made =
     elim c.if-left-eq0.branch [
       | then-left-eq0 w ↦ rw (w.links-is, w.made-is) (adopted_none c.args.links.now c.sides-left.result.0 w.if-left-eq0.true)
-      | else-left-eq0 w ↦ rw (w.links-is, w.made-is) w.adopt-cell-made.ensures
+      | else-left-eq0 w ↦ rw (w.links-is, w.made-is) w.adopt_cell-made.ensures
     ] in
     let second : Adopted c.if-left-eq0.links c.if-right-eq0.links c.sides-left.result.1 c.if-right-eq0.more =
     elim c.if-right-eq0.branch [
       | then-right-eq0 w ↦ rw (w.links-is, w.more-is) (adopted_none c.if-left-eq0.links c.sides-left.result.1 w.if-right-eq0.true)
-      | else-right-eq0 w ↦ rw (w.links-is, w.more-is) w.adopt-cell-more.ensures
+      | else-right-eq0 w ↦ rw (w.links-is, w.more-is) w.adopt_cell-more.ensures
     ] in
     omega (arith, first.live_cells, second.live_cells, second.few, first.kept.len, second.kept.len)
 
@@ -91,15 +91,15 @@ returns t c =
     let ls : List Link = c.args.links.now in
     let l : ℕ = c.sides-left.result.0 in
     let r : ℕ = c.sides-left.result.1 in
-    let p = fresh ls c.args.cell c.requires.low c.requires.tree c.link-of-link.result c.link-of-link.ensures (omega arith) l r c.sides-left.ensures.left c.sides-left.ensures.right in
+    let p = fresh ls c.args.cell c.requires.low c.requires.tree c.link_of-link.result c.link_of-link.ensures (omega arith) l r c.sides-left.ensures.left c.sides-left.ensures.right in
     let first : Adopted c.args.links.now c.if-left-eq0.links c.sides-left.result.0 c.if-left-eq0.made =
     elim c.if-left-eq0.branch [
       | then-left-eq0 w ↦ rw (w.links-is, w.made-is) (adopted_none c.args.links.now c.sides-left.result.0 w.if-left-eq0.true)
-      | else-left-eq0 w ↦ rw (w.links-is, w.made-is) w.adopt-cell-made.ensures
+      | else-left-eq0 w ↦ rw (w.links-is, w.made-is) w.adopt_cell-made.ensures
     ] in
     let second : Adopted c.if-left-eq0.links c.if-right-eq0.links c.sides-left.result.1 c.if-right-eq0.more =
     elim c.if-right-eq0.branch [
       | then-right-eq0 w ↦ rw (w.links-is, w.more-is) (adopted_none c.if-left-eq0.links c.sides-left.result.1 w.if-right-eq0.true)
-      | else-right-eq0 w ↦ rw (w.links-is, w.more-is) w.adopt-cell-more.ensures
+      | else-right-eq0 w ↦ rw (w.links-is, w.more-is) w.adopt_cell-more.ensures
     ] in
     adopted_unused ls c.args.cell l r p c.if-left-eq0.links c.if-left-eq0.made first c.if-right-eq0.links c.if-right-eq0.more second c.raise-2.new.links c.raise-2.ensures

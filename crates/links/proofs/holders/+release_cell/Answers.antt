@@ -19,15 +19,15 @@ returns-then-lower t c =
     released_held c.args.links.now c.lower.new.links c.args.cell c.requires.low c.requires.high cut.put (sym cut.held ∙ c.if-lower.true)
 
 -- the cell's last reference goes, and its two links are held in its place
-pub release-cell-freed-requires : goal.release-cell-freed-requires
-release-cell-freed-requires t c =
+pub release_cell-freed-requires : goal.release_cell-freed-requires
+release_cell-freed-requires t c =
     let ls : List Link = c.args.links.now in
     let ms : List Link = c.lower.new.links in
     let l : ℕ = c.sides-left.result.0 in
     let r : ℕ = c.sides-left.result.1 in
     let cut = c.lower.ensures in
     let p = last ls ms c.args.cell c.requires.low c.requires.high cut.put (sym cut.held ∙ c.if-lower.false) c.requires.counted
-    c.link-of-link.result c.link-of-link.ensures l r c.sides-left.ensures.left c.sides-left.ensures.right in
+    c.link_of-link.result c.link_of-link.ensures l r c.sides-left.ensures.left c.sides-left.ensures.right in
     let m : levels_of ls c.args.cell ≡ t = c.decreases in
     let falls = left_falls ls ms c.args.cell l r p in
     let less : levels_of ms l < t = omega arith in
@@ -36,19 +36,19 @@ release-cell-freed-requires t c =
     let held = handed ls ms c.args.cell l r p rs k in
     (less, (omega (arith, cut.put.kept.len), (low, (live_high ms l (held_live ms (r ∷ rs) l low held), (r ∷ rs, held)))))
 
-pub release-cell-more-requires : goal.release-cell-more-requires
-release-cell-more-requires t c =
+pub release_cell-more-requires : goal.release_cell-more-requires
+release_cell-more-requires t c =
     let ls : List Link = c.args.links.now in
     let ms : List Link = c.lower.new.links in
     let l : ℕ = c.sides-left.result.0 in
     let r : ℕ = c.sides-left.result.1 in
     let cut = c.lower.ensures in
     let p = last ls ms c.args.cell c.requires.low c.requires.high cut.put (sym cut.held ∙ c.if-lower.false) c.requires.counted
-    c.link-of-link.result c.link-of-link.ensures l r c.sides-left.ensures.left c.sides-left.ensures.right in
+    c.link_of-link.result c.link_of-link.ensures l r c.sides-left.ensures.left c.sides-left.ensures.right in
     let first : Released c.lower.new.links c.if-left-eq0.links c.sides-left.result.0 c.if-left-eq0.freed =
     elim c.if-left-eq0.branch [
       | then-left-eq0 w ↦ rw (w.links-is, w.freed-is) (released_none c.lower.new.links c.sides-left.result.0 w.if-left-eq0.true)
-      | else-left-eq0 w ↦ rw (w.links-is, w.freed-is) w.release-cell-freed.ensures
+      | else-left-eq0 w ↦ rw (w.links-is, w.freed-is) w.release_cell-freed.ensures
     ] in
     let ns : List Link = c.if-left-eq0.links in
     let m : levels_of ls c.args.cell ≡ t = c.decreases in
@@ -59,26 +59,26 @@ release-cell-more-requires t c =
     let held = first.counted (r ∷ rs) (handed ls ms c.args.cell l r p rs k) in
     (less, (omega (arith, cut.put.kept.len, first.kept.len), (low, (live_high ns r (held_live ns rs r low held), (rs, held)))))
 
-pub overflow-add-result : goal.overflow-add-result
-overflow-add-result t c =
+pub overflow_add-result : goal.overflow_add-result
+overflow_add-result t c =
     let first : Released c.lower.new.links c.if-left-eq0.links c.sides-left.result.0 c.if-left-eq0.freed =
     elim c.if-left-eq0.branch [
       | then-left-eq0 w ↦ rw (w.links-is, w.freed-is) (released_none c.lower.new.links c.sides-left.result.0 w.if-left-eq0.true)
-      | else-left-eq0 w ↦ rw (w.links-is, w.freed-is) w.release-cell-freed.ensures
+      | else-left-eq0 w ↦ rw (w.links-is, w.freed-is) w.release_cell-freed.ensures
     ] in
     omega (arith, first.live_cells, first.few, c.lower.ensures.put.kept.len)
 
-pub overflow-add-result-2 : goal.overflow-add-result-2
-overflow-add-result-2 t c =
+pub overflow_add-result-2 : goal.overflow_add-result-2
+overflow_add-result-2 t c =
     let first : Released c.lower.new.links c.if-left-eq0.links c.sides-left.result.0 c.if-left-eq0.freed =
     elim c.if-left-eq0.branch [
       | then-left-eq0 w ↦ rw (w.links-is, w.freed-is) (released_none c.lower.new.links c.sides-left.result.0 w.if-left-eq0.true)
-      | else-left-eq0 w ↦ rw (w.links-is, w.freed-is) w.release-cell-freed.ensures
+      | else-left-eq0 w ↦ rw (w.links-is, w.freed-is) w.release_cell-freed.ensures
     ] in
     let second : Released c.if-left-eq0.links c.if-right-eq0.links c.sides-left.result.1 c.if-right-eq0.more =
     elim c.if-right-eq0.branch [
       | then-right-eq0 w ↦ rw (w.links-is, w.more-is) (released_none c.if-left-eq0.links c.sides-left.result.1 w.if-right-eq0.true)
-      | else-right-eq0 w ↦ rw (w.links-is, w.more-is) w.release-cell-more.ensures
+      | else-right-eq0 w ↦ rw (w.links-is, w.more-is) w.release_cell-more.ensures
     ] in
     omega (arith, first.live_cells, first.few, second.live_cells, c.lower.ensures.put.kept.len)
 
@@ -90,15 +90,15 @@ returns t c =
     let r : ℕ = c.sides-left.result.1 in
     let cut = c.lower.ensures in
     let p = last ls ms c.args.cell c.requires.low c.requires.high cut.put (sym cut.held ∙ c.if-lower.false) c.requires.counted
-    c.link-of-link.result c.link-of-link.ensures l r c.sides-left.ensures.left c.sides-left.ensures.right in
+    c.link_of-link.result c.link_of-link.ensures l r c.sides-left.ensures.left c.sides-left.ensures.right in
     let first : Released c.lower.new.links c.if-left-eq0.links c.sides-left.result.0 c.if-left-eq0.freed =
     elim c.if-left-eq0.branch [
       | then-left-eq0 w ↦ rw (w.links-is, w.freed-is) (released_none c.lower.new.links c.sides-left.result.0 w.if-left-eq0.true)
-      | else-left-eq0 w ↦ rw (w.links-is, w.freed-is) w.release-cell-freed.ensures
+      | else-left-eq0 w ↦ rw (w.links-is, w.freed-is) w.release_cell-freed.ensures
     ] in
     let second : Released c.if-left-eq0.links c.if-right-eq0.links c.sides-left.result.1 c.if-right-eq0.more =
     elim c.if-right-eq0.branch [
       | then-right-eq0 w ↦ rw (w.links-is, w.more-is) (released_none c.if-left-eq0.links c.sides-left.result.1 w.if-right-eq0.true)
-      | else-right-eq0 w ↦ rw (w.links-is, w.more-is) w.release-cell-more.ensures
+      | else-right-eq0 w ↦ rw (w.links-is, w.more-is) w.release_cell-more.ensures
     ] in
     released_last ls ms c.args.cell l r p c.if-left-eq0.links c.if-left-eq0.freed first c.if-right-eq0.links c.if-right-eq0.more second

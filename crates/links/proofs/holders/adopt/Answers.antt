@@ -3,8 +3,8 @@ use Rattle.links.proofs.Holding.{adopted_none}
 use Rattle.links.proofs.Standing.{stands_low}
 use Rattle.links.proofs.holders.adopt.Goals as goal
 
-pub adopt-cell-requires : goal.adopt-cell-requires
-adopt-cell-requires c =
+pub adopt_cell-requires : goal.adopt_cell-requires
+adopt_cell-requires c =
     record {
       few = c.requires.few;
       low = omega arith;

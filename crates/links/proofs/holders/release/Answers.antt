@@ -4,8 +4,8 @@ use Rattle.links.proofs.Holding.{released_none}
 use Rattle.links.proofs.Tables.{live_high}
 use Rattle.links.proofs.holders.release.Goals as goal
 
-pub release-cell-requires : goal.release-cell-requires
-release-cell-requires c =
+pub release_cell-requires : goal.release_cell-requires
+release_cell-requires c =
     let low : 0 < c.args.root = omega arith in
     let (rs, k) = c.requires.counted in
     record {

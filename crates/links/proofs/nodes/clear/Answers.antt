@@ -19,6 +19,6 @@ returns c =
     record {
       kept = c.loop-link.invariant.0;
       unused = all_unused c.loop-link.links none;
-      live_cells = none_live_count c.loop-link.links none;
+      live_count = none_live_count c.loop-link.links none;
       counted = none_counted c.loop-link.links none;
     }

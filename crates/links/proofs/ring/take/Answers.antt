@@ -2,15 +2,15 @@ use Rattle.std.proofs.Common.{◌-◌, refl, ap, ◌∙◌, arith}
 use Rattle.links.proofs.Rings.{some_unused, steps_left, took}
 use Rattle.links.proofs.ring.take.Goals as goal
 
-pub next-unused-cell-requires : goal.next-unused-cell-requires
-next-unused-cell-requires c =
+pub next_unused-cell-requires : goal.next_unused-cell-requires
+next_unused-cell-requires c =
     let (e, a) = some_unused c.args.links.now c.args.cursor c.requires.some in
     record { from = c.requires.ring.last; some = (e, a.unused) }
 
-pub overflow-cast-steps : goal.overflow-cast-steps
-overflow-cast-steps c =
-    let next = c.next-unused-cell.ensures in
-    omega (arith, steps_left c.args.links.now c.args.cursor c.requires.ring c.requires.some c.next-unused-cell.result next.unused next.next)
+pub overflow_cast-steps : goal.overflow_cast-steps
+overflow_cast-steps c =
+    let next = c.next_unused-cell.ensures in
+    omega (arith, steps_left c.args.links.now c.args.cursor c.requires.ring c.requires.some c.next_unused-cell.result next.unused next.next)
 
 pub pass-requires : goal.pass-requires
 pass-requires c =

@@ -5,18 +5,18 @@ use Rattle.links.proofs.Settling.{settles}
 use Rattle.links.proofs.Standing.{stands_low}
 use Rattle.links.proofs.tests.plant.Goals as goal
 
-pub link-of-l-requires : goal.link-of-l-requires
-link-of-l-requires c = stands_low _ _ c.requires.left.tree c.requires.left.stands
+pub link_of-l-requires : goal.link_of-l-requires
+link_of-l-requires c = stands_low _ _ c.requires.left.tree c.requires.left.stands
 
-pub link-of-r-requires : goal.link-of-r-requires
-link-of-r-requires c = stands_low _ _ c.requires.right.tree c.requires.right.stands
+pub link_of-r-requires : goal.link_of-r-requires
+link_of-r-requires c = stands_low _ _ c.requires.right.tree c.requires.right.stands
 
 pub node-requires : goal.node-requires
 node-requires c =
-    let yes = c.in-ok-check.ensures.1 in
-    let like = c.are-like.ensures in
-    let l = c.link-of-l.ensures in
-    let r = c.link-of-r.ensures in
+    let yes = c.in_ok-check.ensures.1 in
+    let like = c.are_like.ensures in
+    let l = c.link_of-l.ensures in
+    let r = c.link_of-r.ensures in
     record {
       low = c.take-taken.ensures.was.unused.low;
       high = c.take-taken.ensures.was.unused.high;
@@ -30,10 +30,10 @@ node-requires c =
 
 pub returns : goal.returns
 returns c =
-    let yes = c.in-ok-check.ensures.1 in
-    let like = c.are-like.ensures in
-    let l = ap levels_in c.link-of-l.ensures in
-    let r = ap levels_in c.link-of-r.ensures in
+    let yes = c.in_ok-check.ensures.1 in
+    let like = c.are_like.ensures in
+    let l = ap levels_in c.link_of-l.ensures in
+    let r = ap levels_in c.link_of-r.ensures in
     let step : Step c.args.links.now c.node.new.links c.args.cursor c.take-taken.result c.args.left c.args.right =
     record { took = c.take-taken.ensures; wrote = c.node.ensures.wrote } in
     record {

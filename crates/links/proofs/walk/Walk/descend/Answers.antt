@@ -6,8 +6,8 @@ use Rattle.links.proofs.walk.Walk.descend.Goals as goal
 pub bounds-self-self : goal.bounds-self-self
 bounds-self-self c = omega (arith, going_falls c.loop-n.invariant c.loop-n-test.true to_left _ refl)
 
-pub left-of-n-requires : goal.left-of-n-requires
-left-of-n-requires c = (going_sides c.loop-n.invariant c.loop-n-test.true).stands.high
+pub left_of-n-requires : goal.left_of-n-requires
+left_of-n-requires c = (going_sides c.loop-n.invariant c.loop-n-test.true).stands.high
 
 pub loop-n-smaller : goal.loop-n-smaller
 loop-n-smaller c = going_falls c.loop-n.invariant c.loop-n-test.true to_left c.left_of-n.result c.left_of-n.ensures

@@ -5,14 +5,14 @@ use Rattle.links.proofs.Standing.{levels_told}
 use Rattle.links.proofs.Walking.{pending_last}
 use Rattle.links.proofs.walk.Walk.pop.Goals as goal
 
-pub offset-bounds-self-self : goal.offset-bounds-self-self
-offset-bounds-self-self c = omega (arith, (pending_last _ _ _ _ c.requires.some c.requires.walk.1).room)
+pub offset_bounds-self-self : goal.offset_bounds-self-self
+offset_bounds-self-self c = omega (arith, (pending_last _ _ _ _ c.requires.some c.requires.walk.1).room)
 
 pub bounds-self-self : goal.bounds-self-self
 bounds-self-self c = omega (arith, (pending_last _ _ _ _ c.requires.some c.requires.walk.1).room)
 
-pub right-of-right-requires : goal.right-of-right-requires
-right-of-right-requires c = (pending_last _ _ _ _ c.requires.some c.requires.walk.1).high
+pub right_of-right-requires : goal.right_of-right-requires
+right_of-right-requires c = (pending_last _ _ _ _ c.requires.some c.requires.walk.1).high
 
 pub descend-requires : goal.descend-requires
 descend-requires c =

@@ -6,13 +6,13 @@ use Rattle.links.proofs.Standing.{stands_low}
 use Rattle.links.proofs.Walking.{going_sides, going_falls, going_left, going_right, going_ends}
 use Rattle.links.proofs.walk.Walk.seek.Goals as goal
 
-pub link-of-link-requires : goal.link-of-link-requires
-link-of-link-requires c = (going_sides c.loop-n.invariant c.loop-n-test.true).stands.high
+pub link_of-link-requires : goal.link_of-link-requires
+link_of-link-requires c = (going_sides c.loop-n.invariant c.loop-n-test.true).stands.high
 
-pub count-of-before-requires : goal.count-of-before-requires
-count-of-before-requires c =
+pub count_of-before-requires : goal.count_of-before-requires
+count_of-before-requires c =
     let o = going_sides c.loop-n.invariant c.loop-n-test.true in
-    rw (c.left-left.ensures, c.link-of-link.ensures) (stands_low _ _ o.left o.stands.left)
+    rw (c.left-left.ensures, c.link_of-link.ensures) (stands_low _ _ o.left o.stands.left)
 
 pub bounds-walk-walk : goal.bounds-walk-walk
 bounds-walk-walk c = omega (arith, going_falls c.loop-n.invariant c.loop-n-test.true to_left _ refl)
@@ -24,7 +24,7 @@ loop-n-smaller-then-skip-before c =
 pub loop-n-preserved-then-skip-before : goal.loop-n-preserved-then-skip-before
 loop-n-preserved-then-skip-before c =
     let few = rw (c.count_of-before.ensures, c.left-left.ensures, c.link_of-link.ensures) at c.if-skip-before.true in
-    going_left c.loop-n.invariant c.loop-n-test.true _ c.left-left.type-inv (c.left-left.ensures ∙ ap left_in c.link_of-link.ensures) few
+    going_left c.loop-n.invariant c.loop-n-test.true _ c.left-left.type_inv (c.left-left.ensures ∙ ap left_in c.link_of-link.ensures) few
 
 pub loop-n-smaller : goal.loop-n-smaller
 loop-n-smaller c =
@@ -33,7 +33,7 @@ loop-n-smaller c =
 pub loop-n-preserved : goal.loop-n-preserved
 loop-n-preserved c =
     let before : c.count_of-before.result ≡ count_of c.args.links.now (left_of c.args.links.now c.loop-n.n) = cc in
-    going_right c.loop-n.invariant c.loop-n-test.true _ _ c.right-right.ok (c.right-right.ensures ∙ ap right_in c.link-of-link.ensures) (omega arith)
+    going_right c.loop-n.invariant c.loop-n-test.true _ _ c.right-right.type_inv (c.right-right.ensures ∙ ap right_in c.link_of-link.ensures) (omega arith)
 
 pub returns : goal.returns
 returns c t s =

@@ -4,8 +4,8 @@ use Rattle.links.specs.Trees.{inorder}
 use Rattle.links.proofs.Standing.{few_levels, stands_low, count_told, inorder-size}
 use Rattle.links.proofs.walk.Walk.start_at.Goals as goal
 
-pub count-of-requires : goal.count-of-requires
-count-of-requires c = stands_low _ _ c.requires.tree c.requires.stands
+pub count_of-requires : goal.count_of-requires
+count_of-requires c = stands_low _ _ c.requires.tree c.requires.stands
 
 pub seek-requires : goal.seek-requires
 seek-requires c =
@@ -15,5 +15,5 @@ seek-requires c =
       room = omega (arith, (few_levels _ _ c.requires).in_22 (omega arith));
     }
 
-pub returns-else-place-count-of : goal.returns-else-place-count-of
-returns-else-place-count-of c t s = drop_all c.args.place (inorder t) (omega (arith, inorder-size t, count_told _ _ t s))
+pub returns-else-place-count_of : goal.returns-else-place-count_of
+returns-else-place-count_of c t s = drop_all c.args.place (inorder t) (omega (arith, inorder-size t, count_told _ _ t s))
