@@ -1,4 +1,4 @@
-use Rattle.std.proofs.Common.{ap, arith}
+use Rattle.std.proofs.Common.{◌≡◌, true, ap, arith, rules}
 use Rattle.links.specs.Building.{Step}
 use Rattle.links.specs.Fields.{count_in, levels_in}
 use Rattle.links.proofs.Settling.{settles}
@@ -6,14 +6,14 @@ use Rattle.links.proofs.Standing.{stands_low}
 use Rattle.links.proofs.tests.plant.Goals as goal
 
 pub link_of-l-requires : goal.link_of-l-requires
-link_of-l-requires c = stands_low _ _ c.requires.left.tree c.requires.left.stands
+link_of-l-requires g c = stands_low _ _ c.requires.left.tree c.requires.left.stands
 
 pub link_of-r-requires : goal.link_of-r-requires
-link_of-r-requires c = stands_low _ _ c.requires.right.tree c.requires.right.stands
+link_of-r-requires g c = stands_low _ _ c.requires.right.tree c.requires.right.stands
 
 pub node-requires : goal.node-requires
-node-requires c =
-    let yes = c.in_ok-check.ensures.1 in
+node-requires g c =
+    let yes : c.are_like.result ≡ true = search rules in
     let like = c.are_like.ensures in
     let l = c.link_of-l.ensures in
     let r = c.link_of-r.ensures in
@@ -29,8 +29,8 @@ node-requires c =
     }
 
 pub returns : goal.returns
-returns c =
-    let yes = c.in_ok-check.ensures.1 in
+returns g c =
+    let yes : c.are_like.result ≡ true = search rules in
     let like = c.are_like.ensures in
     let l = ap levels_in c.link_of-l.ensures in
     let r = ap levels_in c.link_of-r.ensures in

@@ -3,7 +3,7 @@ use Rattle.links.proofs.Standing.{stays_kept}
 use Rattle.links.proofs.tests.share_a_side.Goals as goal
 
 pub adopt-requires-2 : goal.adopt-requires-2
-adopt-requires-2 c =
+adopt-requires-2 g c =
     let p = c.in_ok-low.ensures in
     let held = c.adopt.ensures in
     record {
@@ -13,7 +13,7 @@ adopt-requires-2 c =
     }
 
 pub release-requires : goal.release-requires
-release-requires c =
+release-requires g c =
     let p = c.in_ok-low.ensures in
     record {
       few = omega (arith, p.size, c.adopt.ensures.kept.len, c.adopt-2.ensures.kept.len);
@@ -21,7 +21,7 @@ release-requires c =
     }
 
 pub release-requires-2 : goal.release-requires-2
-release-requires-2 c =
+release-requires-2 g c =
     let p = c.in_ok-low.ensures in
     record {
       few = omega (arith, p.size, c.adopt.ensures.kept.len, c.adopt-2.ensures.kept.len, c.release.ensures.kept.len);

@@ -3,9 +3,8 @@ use Rattle.links.proofs.tests.take_round.Goals as goal
 
 -- one cell of 64 is live
 pub take-first-requires : goal.take-first-requires
-take-first-requires c =
+take-first-requires g c =
     let p = c.in_ok-low.ensures in
-    let one = c.in_ok-check_eq-2.ensures.0 refl in
     record {
       few = omega (arith, p.size, c.adopt.ensures.kept.len);
       ring = c.begin-start.ensures.begun.ring;
@@ -13,9 +12,8 @@ take-first-requires c =
     }
 
 pub take-requires : goal.take-requires
-take-requires c =
+take-requires g c =
     let p = c.in_ok-low.ensures in
-    let one = c.in_ok-check_eq-2.ensures.0 refl in
     record {
       few = omega (arith, p.size, c.adopt.ensures.kept.len);
       ring = c.take-first.ensures.ring;

@@ -5,7 +5,7 @@ use Rattle.links.proofs.Standing.{stands_low}
 use Rattle.links.proofs.tests.three_cells.Goals as goal
 
 pub plant-requires-2 : goal.plant-requires-2
-plant-requires-2 c =
+plant-requires-2 g c =
     let low = c.in_ok-low.ensures.step in
     let uses = building.uses _ _ _ _ _ _ low in
     record {
@@ -17,7 +17,7 @@ plant-requires-2 c =
     }
 
 pub plant-requires-3 : goal.plant-requires-3
-plant-requires-3 c =
+plant-requires-3 g c =
     let low = c.in_ok-low.ensures.step in
     let high = c.in_ok-high.ensures.step in
     let uses = building.uses _ _ _ _ _ _ high in
@@ -30,7 +30,7 @@ plant-requires-3 c =
     }
 
 pub returns : goal.returns
-returns c =
+returns g c =
     let low = c.in_ok-low.ensures in
     let high = c.in_ok-high.ensures in
     let root = c.in_ok-root.ensures in
@@ -46,10 +46,8 @@ returns c =
     }
 
 pub returns-in_err-high : goal.returns-in_err-high
-returns-in_err-high c = search (rules, IfOk-from_err)
+returns-in_err-high g c = search (rules, IfOk-from_err)
 
 pub returns-in_err-root : goal.returns-in_err-root
-returns-in_err-root c = search (rules, IfOk-from_err)
+returns-in_err-root g c = search (rules, IfOk-from_err)
 
-pub returns-in_err-check_eq : goal.returns-in_err-check_eq
-returns-in_err-check_eq c = search (rules, IfOk-from_err)
