@@ -4,7 +4,7 @@ use Rattle.std.proofs.lemmas.Bool.{cases_eq, cases_lt, cases_Bool, lt-ltb, ltb-t
 use Rattle.links.specs.declared.link.Link.{Link}
 use Rattle.links.specs.Fields.{refs_in}
 use Rattle.links.specs.Cells.{left_of, right_of, levels_of, refs_of, Side, to_left, to_right, link_of, Kept, sum_to}
-use Rattle.links.specs.Counted.{one, occurs, points_to, inlinks, is_live, Counted}
+use Rattle.links.specs.Counted.{occurs, points_to, inlinks, is_live, Counted}
 use Rattle.links.specs.Reach.{Reaches, from_outside, by_link, Tells, LiveIsReached}
 use Rattle.links.specs.Stands.{Stands, Among}
 use Rattle.links.specs.Trees.{Tree, tip, fork, Balanced}

@@ -1,5 +1,5 @@
 -- A table of links by its cells: cell c lies at place c - 1. Link 0, which is no cell, and what lies past the last cell read as blank.
-use Rattle.std.specs.Prelude.{◌≡◌, ℕ, zero, suc, ◌+◌, ◌-◌, List, length, ◌≢◌, slice_index_or}
+use Rattle.std.specs.Prelude.{◌≡◌, ℕ, zero, suc, ◌+◌, List, length, ◌≢◌, slice_index_or}
 use Rattle.links.specs.declared.link.Link.{Link}
 use Rattle.links.specs.Fields.{left_in, right_in, count_in, levels_in, refs_in, blank, SameShape}
 

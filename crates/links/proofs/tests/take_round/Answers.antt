@@ -1,4 +1,4 @@
-use Rattle.std.proofs.Common.{refl, arith}
+use Rattle.std.proofs.Common.{arith}
 use Rattle.links.proofs.tests.take_round.Goals as goal
 
 -- one cell of 64 is live

@@ -50,4 +50,3 @@ returns-in_err-high g c = search (rules, IfOk-from_err)
 
 pub returns-in_err-root : goal.returns-in_err-root
 returns-in_err-root g c = search (rules, IfOk-from_err)
-
