@@ -74,17 +74,17 @@ module _ {E K S L : Type 0} (o : Ops E K S L) where
     }
 
     pub lower_half : smaller k x ≡ false → Narrowed k xs low middle
-    lower_half not-less = record {
+    lower_half not_less = record {
       ordered = from;
       inside = omega (arith, n.inside);
       below = n.below;
       above = λ i d h l.
           elim (cases_eq i middle) [
-            | inl e ↦ subst (λ y. smaller k y ≡ false) (sym (ap (λ j. get_or xs j d) e ∙ at_middle d)) not-less
+            | inl e ↦ subst (λ y. smaller k y ≡ false) (sym (ap (λ j. get_or xs j d) e ∙ at_middle d)) not_less
             | inr e ↦
                 let up = subst (λ y. o.less (o.key y) (o.key (get_or xs i d)) ≡ true) (at_middle x) (rises_at xs rising middle i x d (omega arith) l) in
                 elim (cases_Bool (smaller k (get_or xs i d))) [
-                  | inl yes-less ↦ absurd (both_ways (smaller k x) not-less (laws.order.transitive (o.key x) (o.key (get_or xs i d)) k up yes-less))
+                  | inl yes_less ↦ absurd (both_ways (smaller k x) not_less (laws.order.transitive (o.key x) (o.key (get_or xs i d)) k up yes_less))
                   | inr no_less ↦ no_less
                 ]
           ];
@@ -101,13 +101,13 @@ module _ {E K S L : Type 0} (o : Ops E K S L) where
     -- a first entry is before k exactly where the place of k is not the first
     first_not : (y : E) (ys : List E) → 0 ≡ rank o k (y ∷ ys) → smaller k y ≡ false
     first_not y ys is =
-        elim (cases_Bool (smaller k y)) [ inl less ↦ absurd (omega (arith, kept_cons (smaller k) true y ys less)) | inr not-less ↦ not-less ]
+        elim (cases_Bool (smaller k y)) [ inl less ↦ absurd (omega (arith, kept_cons (smaller k) true y ys less)) | inr not_less ↦ not_less ]
 
     first_is : (y : E) (ys : List E) (r : ℕ) → Rising o (y ∷ ys) → suc r ≡ rank o k (y ∷ ys) → (smaller k y ≡ true) × (r ≡ rank o k ys)
     first_is y ys r rising is =
         elim (cases_Bool (smaller k y)) [
           | inl less ↦ (less, omega (arith, kept_cons (smaller k) true y ys less))
-          | inr not-less ↦ absurd (omega (arith, none_smaller y ys rising.0 not-less))
+          | inr not_less ↦ absurd (omega (arith, none_smaller y ys rising.0 not_less))
         ]
 
     replaces : (xs : List E) → Rising o xs → (r : ℕ) → r ≡ rank o k xs → (x : E) → r < length xs → x ≡ get_or xs r x → o.less k (o.key x) ≡ false →

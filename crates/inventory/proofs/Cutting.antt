@@ -16,16 +16,16 @@ some_long (b ∷ bs) h = refl
 -- a front that goes on, and one that stops at once
 module _ (p : ℕ → Bool) (b : ℕ) (bs : List ℕ) where
   pub front_on : p b ≡ true → front_of p (b ∷ bs) ≡ b ∷ front_of p bs
-  front_on yes-b = ap (λ n. take n (b ∷ bs)) (cond-true (p b) (1 + prefix_len p bs) 0 yes-b ∙ one-add (prefix_len p bs))
+  front_on yes_b = ap (λ n. take n (b ∷ bs)) (cond-true (p b) (1 + prefix_len p bs) 0 yes_b ∙ one-add (prefix_len p bs))
 
   pub past_on : p b ≡ true → past_front p (b ∷ bs) ≡ past_front p bs
-  past_on yes-b = ap (λ n. drop n (b ∷ bs)) (cond-true (p b) (1 + prefix_len p bs) 0 yes-b ∙ one-add (prefix_len p bs))
+  past_on yes_b = ap (λ n. drop n (b ∷ bs)) (cond-true (p b) (1 + prefix_len p bs) 0 yes_b ∙ one-add (prefix_len p bs))
 
   pub front_stops : p b ≡ false → front_of p (b ∷ bs) ≡ []
-  front_stops no-b = ap (λ n. take n (b ∷ bs)) (cond-false (p b) (1 + prefix_len p bs) 0 no-b)
+  front_stops no_b = ap (λ n. take n (b ∷ bs)) (cond-false (p b) (1 + prefix_len p bs) 0 no_b)
 
   pub past_stops : p b ≡ false → past_front p (b ∷ bs) ≡ b ∷ bs
-  past_stops no-b = ap (λ n. drop n (b ∷ bs)) (cond-false (p b) (1 + prefix_len p bs) 0 no-b)
+  past_stops no_b = ap (λ n. drop n (b ∷ bs)) (cond-false (p b) (1 + prefix_len p bs) 0 no_b)
 
 -- the elements that do not pass
 abbrev pub others : (ℕ → Bool) → ℕ → Bool

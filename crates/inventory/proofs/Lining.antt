@@ -16,16 +16,16 @@ first_line : (line past : List ℕ) → 0 < length line + length past → ended 
 first_line line [] h = cond-false (is_empty line) [] (line ∷ []) (some_long line (omega arith))
 first_line line (b ∷ bs) h = let rest = pieces-first ends bs in cc
 
-module _ (text line past : List ℕ) (is-line : line ≡ front_of (classed Inline) text) (is-past : past ≡ past_front (classed Inline) text) (some : 0 < length text) where
+module _ (text line past : List ℕ) (is_line : line ≡ front_of (classed Inline) text) (is_past : past ≡ past_front (classed Inline) text) (some : 0 < length text) where
   pub cut : (rest : List ℕ) → rest ≡ drop 1 past → Cut text line rest
-  cut rest is-rest =
+  cut rest is_rest =
       let inside = prefix_len-le-length (classed Inline) text in
-      let line_long : length line ≡ prefix_len (classed Inline) text = ap length is-line ∙ length-take-le (prefix_len (classed Inline) text) text inside in
-      let past_long : length past ≡ length text - prefix_len (classed Inline) text = ap length is-past ∙ length-drop (prefix_len (classed Inline) text) text in
-      let rest_long : length rest ≡ length past - 1 = ap length is-rest ∙ length-drop 1 past in
+      let line_long : length line ≡ prefix_len (classed Inline) text = ap length is_line ∙ length-take-le (prefix_len (classed Inline) text) text inside in
+      let past_long : length past ≡ length text - prefix_len (classed Inline) text = ap length is_past ∙ length-drop (prefix_len (classed Inline) text) text in
+      let rest_long : length rest ≡ length past - 1 = ap length is_rest ∙ length-drop 1 past in
       record {
-        front = is-line;
-        after = is-rest ∙ ap (drop 1) is-past ∙ drop-drop 1 (prefix_len (classed Inline) text) text ∙ ap (λ k. drop (k + 1) text) (sym line_long);
+        front = is_line;
+        after = is_rest ∙ ap (drop 1) is_past ∙ drop-drop 1 (prefix_len (classed Inline) text) text ∙ ap (λ k. drop (k + 1) text) (sym line_long);
         first = let pieced = pieces-first ends text in let lines = first_line line past (omega arith) in cc;
         shorter = omega arith;
       }
@@ -37,4 +37,4 @@ module _ (text line past : List ℕ) (is-line : line ≡ front_of (classed Inlin
 -- one element more in a loop that maps: done and done' are what it has before and after
 pub map_on : {X Y : Type 0} (f : X → Y) (done done' all : List Y) (xs rest : List X) (x : X) (y : Y) →
     done ++ map f xs ≡ all → xs ≡ x ∷ rest → y ≡ f x → done' ≡ done ++ y ∷ [] → done' ++ map f rest ≡ all
-map_on f done done' all xs rest x y inv is-xs is_y is-done = let joined = append_assoc done (y ∷ []) (map f rest) in cc
+map_on f done done' all xs rest x y inv is_xs is_y is_done = let joined = append_assoc done (y ∷ []) (map f rest) in cc

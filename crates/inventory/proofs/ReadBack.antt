@@ -112,12 +112,12 @@ module _ (n : ℕ) where
   marks_refused no_label = ap label_in (cond-false (is_label n) (bytes_of n) (codes "????????") no_label)
 
 -- the four words of a line, read
-module _ (a l g d : List ℕ) (x y z : ℕ) (is_x : number_in Address 65535 a ≡ Ok x) (is_y : number_in Gigabytes 4294967295 g ≡ Ok y) (is-z : number_in Day 65535 d ≡ Ok z) where
+module _ (a l g d : List ℕ) (x y z : ℕ) (is_x : number_in Address 65535 a ≡ Ok x) (is_y : number_in Gigabytes 4294967295 g ≡ Ok y) (is_z : number_in Day 65535 d ≡ Ok z) where
   four_read : (n : ℕ) → label_in l ≡ Ok n → line_of (a ∷ l ∷ g ∷ d ∷ []) ≡ Row (record { label = n; gigabytes = y; address = x; day = z })
-  four_read n is-n = ap said (row_by_lem (number_in Address 65535 a) (label_in l) (number_in Gigabytes 4294967295 g) (number_in Day 65535 d) x n y z is_x is-n is_y is-z)
+  four_read n is_n = ap said (row_by_lem (number_in Address 65535 a) (label_in l) (number_in Gigabytes 4294967295 g) (number_in Day 65535 d) x n y z is_x is_n is_y is_z)
 
   four_refused : (fault : Fault) → label_in l ≡ Err fault → line_of (a ∷ l ∷ g ∷ d ∷ []) ≡ Refused fault
-  four_refused fault is-fault = ap said (no_label_by (number_in Address 65535 a) (label_in l) (number_in Gigabytes 4294967295 g) (number_in Day 65535 d) true x fault is_x is-fault)
+  four_refused fault is_fault = ap said (no_label_by (number_in Address 65535 a) (label_in l) (number_in Gigabytes 4294967295 g) (number_in Day 65535 d) true x fault is_x is_fault)
 
 module _ (row : SlotRow) (address : row.address < 65536) (label : row.label < 2 ^ 64) (gigabytes : row.gigabytes < 4294967296) (day : row.day < 65536) where
   a : List ℕ
@@ -144,25 +144,25 @@ module _ (row : SlotRow) (address : row.address < 65536) (label : row.label < 2 
   unfolding a l g d
   uncut =
       let kept : ℕ → Type 0 = λ b. classed Content b ≡ true in
-      let in-a = no_comment a (decimal_there row.address (omega arith)) (decimal_signs row.address (omega arith)) in
-      let in-l = no_comment l (label_there row.label) (label_signs row.label) in
+      let in_a = no_comment a (decimal_there row.address (omega arith)) (decimal_signs row.address (omega arith)) in
+      let in_l = no_comment l (label_there row.label) (label_signs row.label) in
       let in_g = no_comment g (decimal_there row.gigabytes (omega arith)) (decimal_signs row.gigabytes (omega arith)) in
-      let in-d = no_comment d (decimal_there row.day (omega arith)) (decimal_signs row.day (omega arith)) in
+      let in_d = no_comment d (decimal_there row.day (omega arith)) (decimal_signs row.day (omega arith)) in
       front_all (classed Content) (row_text row)
-      (All-append kept a (32 ∷ (l ++ 32 ∷ (g ++ 32 ∷ d))) in-a (refl, All-append kept l (32 ∷ (g ++ 32 ∷ d)) in-l (refl, All-append kept g (32 ∷ d) in_g (refl, in-d))))
+      (All-append kept a (32 ∷ (l ++ 32 ∷ (g ++ 32 ∷ d))) in_a (refl, All-append kept l (32 ∷ (g ++ 32 ∷ d)) in_l (refl, All-append kept g (32 ∷ d) in_g (refl, in_d))))
 
   pub reads_back : ReadsBack row
   unfolding a l g d
   reads_back =
-      let is-a = decimal-read row.address (omega arith) Address 65535 (omega arith) in
-      let is-g = decimal-read row.gigabytes (omega arith) Gigabytes 4294967295 (omega arith) in
-      let is-d = decimal-read row.day (omega arith) Day 65535 (omega arith) in
+      let is_a = decimal-read row.address (omega arith) Address 65535 (omega arith) in
+      let is_g = decimal-read row.gigabytes (omega arith) Gigabytes 4294967295 (omega arith) in
+      let is_d = decimal-read row.day (omega arith) Day 65535 (omega arith) in
       let split = ap (λ t. line_of (words t)) uncut ∙ ap line_of four in
       elim (cases_Bool (is_label row.label)) [
         | inl is ↦
-            split ∙ four_read a l g d row.address row.gigabytes row.day is-a is-g is-d row.label (label_read row.label label is)
+            split ∙ four_read a l g d row.address row.gigabytes row.day is_a is_g is_d row.label (label_read row.label label is)
             ∙ sym (cond-true (is_label row.label) (Row row) (Refused (NotALabel 0)) is)
         | inr none ↦
-            split ∙ four_refused a l g d row.address row.gigabytes row.day is-a is-g is-d (NotALabel 0) (marks_refused row.label none)
+            split ∙ four_refused a l g d row.address row.gigabytes row.day is_a is_g is_d (NotALabel 0) (marks_refused row.label none)
             ∙ sym (cond-false (is_label row.label) (Row row) (Refused (NotALabel 0)) none)
       ]

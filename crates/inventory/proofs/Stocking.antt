@@ -23,15 +23,15 @@ row_more (Refused fault) ls rows = refl
 module _ (lines : List Line) (i : ℕ) (rows : List SlotRow) (notes : List Note) (old : Sofar lines i rows notes) where
   pub line_more : (d : Line) (rows' : List SlotRow) (notes' : List Note) → i < length lines → Rising ghosts.ops rows' →
       rows' ≡ after (get_or lines i d) rows → notes' ≡ notes ++ noted (suc i) (remarks (get_or lines i d) rows) → Sofar lines (suc i) rows' notes'
-  line_more d rows' notes' inside rises new-rows new-notes =
+  line_more d rows' notes' inside rises new_rows new_notes =
       let line = get_or lines i d in
       let rest = drop (suc i) lines in
       let next = drop-cons lines i d inside in
       record {
         rises = rises;
-        built = ap (put_all ghosts.ops (rows_of rest)) new-rows ∙ sym (row_more line rest rows) ∙ ap (λ ls. put_all ghosts.ops (rows_of ls) rows) (sym next) ∙ old.built;
+        built = ap (put_all ghosts.ops (rows_of rest)) new_rows ∙ sym (row_more line rest rows) ∙ ap (λ ls. put_all ghosts.ops (rows_of ls) rows) (sym next) ∙ old.built;
         told =
-            (λ j. new-notes j ++ notes_from (suc (suc i)) (new-rows j) rest) ∙ append_assoc notes (noted (suc i) (remarks line rows)) (notes_from (suc (suc i)) (after line rows) rest)
+            (λ j. new_notes j ++ notes_from (suc (suc i)) (new_rows j) rest) ∙ append_assoc notes (noted (suc i) (remarks line rows)) (notes_from (suc (suc i)) (after line rows) rest)
             ∙ ap (λ ls. notes ++ notes_from (suc i) rows ls) (sym next) ∙ old.told;
       }
 

@@ -12,10 +12,10 @@ record Digitwise (f : ℕ → ℕ → ℕ → ℕ) : Type 0 where
   digit : (a b c : ℕ) → f a b c % 2 ≡ f (a % 2) (b % 2) (c % 2)
 
 module _ (f g : ℕ → ℕ → ℕ → ℕ) (df : Digitwise f) (dg : Digitwise g)
-    (at_zero : (b c : ℕ) → f 0 b c ≡ g 0 b c) (at-digits : (x y z : ℕ) → x < 2 → y < 2 → z < 2 → f x y z ≡ g x y z) where
+    (at_zero : (b c : ℕ) → f 0 b c ≡ g 0 b c) (at_digits : (x y z : ℕ) → x < 2 → y < 2 → z < 2 → f x y z ≡ g x y z) where
   digit_more : (a : ℕ) → ((b c : ℕ) → f (a / 2) b c ≡ g (a / 2) b c) → (b c : ℕ) → f a b c ≡ g a b c
   digit_more a halves b c =
-      let low = at-digits (a % 2) (b % 2) (c % 2) (mod_below a 2 (omega arith)) (mod_below b 2 (omega arith)) (mod_below c 2 (omega arith)) in
+      let low = at_digits (a % 2) (b % 2) (c % 2) (mod_below a 2 (omega arith)) (mod_below b 2 (omega arith)) (mod_below c 2 (omega arith)) in
       let high = df.half a b c ∙ halves (b / 2) (c / 2) ∙ sym (dg.half a b c) in
       let rest = df.digit a b c ∙ low ∙ sym (dg.digit a b c) in
       omega (arith, div-add-mod' (f a b c) 2, div-add-mod' (g a b c) 2)

@@ -86,36 +86,26 @@ fn slots_sum_gigabytes_and_find_the_earliest_day(rt: HostRuntime) {
         address: 10,
         day: 65535,
     };
+    assert_eq!(rt; <SlotRow as Kind>::measure(slot), (4294967295, 65535));
     assert_eq!(rt;
-        <SlotRow as crate::kind::Kind>::measure(slot),
-        (4294967295, 65535)
-    );
-    assert_eq!(rt;
-        <SlotRow as crate::kind::Kind>::combine((u64::MAX - 1, 300), (1, 280)),
+        <SlotRow as Kind>::combine((u64::MAX - 1, 300), (1, 280)),
         (u64::MAX, 280)
     );
     assert_eq!(rt;
-        <SlotRow as crate::kind::Kind>::combine((u64::MAX, 280), (u64::MAX, 300)),
+        <SlotRow as Kind>::combine((u64::MAX, 280), (u64::MAX, 300)),
         (u64::MAX, 280),
         "saturates"
     );
     assert_eq!(rt;
-        <SlotRow as crate::kind::Kind>::combine(
-            <SlotRow as crate::kind::Kind>::neutral(),
-            (7, 65535)
-        ),
+        <SlotRow as Kind>::combine(<SlotRow as Kind>::neutral(), (7, 65535)),
         (7, 65535)
     );
     assert!(rt;
-        <SlotRow as crate::kind::Kind>::passes((0, 65534), 65535)
-            & !<SlotRow as crate::kind::Kind>::passes((0, 65535), 65535)
+        <SlotRow as Kind>::passes((0, 65534), 65535) & !<SlotRow as Kind>::passes((0, 65535), 65535)
     );
     let later = SlotRow { day: 1, ..slot };
-    assert!(rt;
-        <SlotRow as crate::kind::Kind>::same(slot, slot)
-            & !<SlotRow as crate::kind::Kind>::same(slot, later)
-    );
-    assert_eq!(rt; <SlotRow as crate::kind::Kind>::blend(slot, later).day, 1);
+    assert!(rt; <SlotRow as Kind>::same(slot, slot) & !<SlotRow as Kind>::same(slot, later));
+    assert_eq!(rt; <SlotRow as Kind>::blend(slot, later).day, 1);
 }
 
 #[test]
@@ -129,26 +119,17 @@ fn bookings_sum_to_the_latest_end(rt: HostRuntime) {
         end: 630,
     };
     assert_eq!(rt;
-        <BookingRow as crate::kind::Kind>::combine(
-            <BookingRow as crate::kind::Kind>::neutral(),
-            <BookingRow as crate::kind::Kind>::measure(first)
+        <BookingRow as Kind>::combine(
+            <BookingRow as Kind>::neutral(),
+            <BookingRow as Kind>::measure(first)
         ),
         660
     );
-    assert_eq!(rt;
-        <BookingRow as crate::kind::Kind>::blend(first, second).end,
-        660
-    );
+    assert_eq!(rt; <BookingRow as Kind>::blend(first, second).end, 660);
+    assert!(rt; <BookingRow as Kind>::passes(660, 659) & !<BookingRow as Kind>::passes(660, 660));
     assert!(rt;
-        <BookingRow as crate::kind::Kind>::passes(660, 659)
-            & !<BookingRow as crate::kind::Kind>::passes(660, 660)
-    );
-    assert!(rt;
-        <BookingRow as crate::kind::Kind>::less(0, u32::MAX)
-            & !<BookingRow as crate::kind::Kind>::less(
-                600,
-                <BookingRow as crate::kind::Kind>::key(first)
-            )
+        <BookingRow as Kind>::less(0, u32::MAX)
+            & !<BookingRow as Kind>::less(600, <BookingRow as Kind>::key(first))
     );
 }
 
@@ -164,22 +145,21 @@ fn labels_sum_to_the_bits_of_their_classes(rt: HostRuntime) {
         address: 20,
         class: 130,
     };
-    let both = <LabelRow as crate::kind::Kind>::blend(first, second);
+    let both = <LabelRow as Kind>::blend(first, second);
     assert_eq!(rt; (both.address, both.class), (20, 135));
     assert_eq!(rt;
-        <LabelRow as crate::kind::Kind>::combine(
-            <LabelRow as crate::kind::Kind>::measure(first),
-            <LabelRow as crate::kind::Kind>::neutral()
+        <LabelRow as Kind>::combine(
+            <LabelRow as Kind>::measure(first),
+            <LabelRow as Kind>::neutral()
         ),
         5
     );
     assert!(rt;
-        <LabelRow as crate::kind::Kind>::passes(5, 4)
-            & !<LabelRow as crate::kind::Kind>::passes(5, 2)
-            & !<LabelRow as crate::kind::Kind>::passes(255, 0)
+        <LabelRow as Kind>::passes(5, 4)
+            & !<LabelRow as Kind>::passes(5, 2)
+            & !<LabelRow as Kind>::passes(255, 0)
     );
     assert!(rt;
-        !<LabelRow as crate::kind::Kind>::same(first, second)
-            & <LabelRow as crate::kind::Kind>::same(second, second)
+        !<LabelRow as Kind>::same(first, second) & <LabelRow as Kind>::same(second, second)
     );
 }

@@ -103,7 +103,7 @@ pub record Last (ls ms : List Link) (cell l r : ℕ) : Type 0 where
 
 pub last : (ls ms : List Link) (cell : ℕ) → 0 < cell → cell ≤ length ls → Put ls ms cell (refs_of ls cell - 1) → is_live ms cell ≡ false → ((rs : List ℕ) × Counted ls (cell ∷ rs))
     → (k : Link) → k ≡ at ls cell → (l r : ℕ) → l ≡ left_in k → r ≡ right_in k → Last ls ms cell l r
-last ls ms cell low high put none (rs, held) k here l r l-is r-is =
+last ls ms cell low high put none (rs, held) k here l r l_is r_is =
     let live = held_live ls rs cell low held in
     let was : refs_of ls cell ≡ 1 = omega (arith, live, put.here, ltb-false 0 (refs_of ms cell) none) in
     let zero_left : refs_of ls cell - 1 ≡ 0 = omega arith in
@@ -113,8 +113,8 @@ last ls ms cell low high put none (rs, held) k here l r l-is r-is =
       put = rw zero_left at put;
       was = was;
       rules = held.rules cell live;
-      left_is = l-is ∙ ap left_in here;
-      right_is = r-is ∙ ap right_in here;
+      left_is = l_is ∙ ap left_in here;
+      right_is = r_is ∙ ap right_in here;
     }
 
 -- The two links are held in the cell's place. ns is the table once l is released, os once r is too.
@@ -208,8 +208,8 @@ pub record Fresh (ls : List Link) (cell l r : ℕ) : Type 0 where
   pub right_is : r ≡ right_of ls cell
 
 pub fresh : (ls : List Link) (cell : ℕ) → 0 < cell → BalancedAt ls cell → (k : Link) → k ≡ at ls cell → refs_in k ≤ 0 → (l r : ℕ) → l ≡ left_in k → r ≡ right_in k → Fresh ls cell l r
-fresh ls cell low tree k here none l r l-is r-is =
-    record { low = low; tree = tree; unused = omega (arith, ap refs_in here); left_is = l-is ∙ ap left_in here; right_is = r-is ∙ ap right_in here }
+fresh ls cell low tree k here none l r l_is r_is =
+    record { low = low; tree = tree; unused = omega (arith, ap refs_in here); left_is = l_is ∙ ap left_in here; right_is = r_is ∙ ap right_in here }
 
 -- ms is the table once l is adopted, ns once r is too, os once the root is written
 module _ (ls : List Link) (cell l r : ℕ) (p : Fresh ls cell l r) where
