@@ -1,3 +1,4 @@
 pub mod Kinds
+pub mod Refused
 pub mod Labels
 pub mod Bitwise

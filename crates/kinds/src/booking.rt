@@ -1,9 +1,9 @@
-ghost use Rattle.std.specs.Prelude.{◌≡◌, ◌<◌, ◌≤◌, MatchOption};
+ghost use Rattle.std.specs.Prelude.{◌≡◌, ◌<◌, ◌≤◌, MatchOption, MatchResult};
 
 use crate::rows::booking::BookingRow;
 
 // A booking that ends after it starts. A table holds rows; a booking is made from a row by its check.
-#[derive(Clone, Copy)]
+#[derive(Clone, Copy, PartialEq, Eq, Debug)]
 pub struct Booking {
     start: u32,
     end: u32,
@@ -22,19 +22,6 @@ impl Booking {
         }
     }
 
-    pub fn from_row(row: BookingRow) -> Option<Booking>
-        ensures { MatchOption result (row.end ≤ row.start) (λ b. (b.start ≡ row.start) × (b.end ≡ row.end)) }
-    {
-        Booking::new(row.start, row.end)
-    }
-
-    pub fn row(self) -> BookingRow
-        ensures { (result.start ≡ self.start) × (result.end ≡ self.end) × (result.start < result.end) }
-    {
-        let Booking { start, end } = self;
-        BookingRow { start, end }
-    }
-
     pub fn start(self) -> u32
         ensures { (result ≡ self.start) × (result < self.end) }
     {
@@ -45,5 +32,28 @@ impl Booking {
         ensures { (result ≡ self.end) × (self.start < result) }
     {
         self.end
+    }
+}
+
+// A row whose end is not later than its start.
+#[derive(Clone, Copy, PartialEq, Eq, Debug)]
+pub struct EndsTooEarly;
+
+impl TryFrom<BookingRow> for Booking {
+    type Error = EndsTooEarly;
+
+    ghost try_from_gives = { λ row r. MatchResult r (λ b. (b.start ≡ row.start) × (b.end ≡ row.end)) (λ _. row.end ≤ row.start) };
+
+    fn try_from(row: BookingRow) -> Result<Booking, EndsTooEarly> {
+        Booking::new(row.start, row.end).ok_or(EndsTooEarly)
+    }
+}
+
+impl From<Booking> for BookingRow {
+    ghost from_gives = { λ b row. (row.start ≡ b.start) × (row.end ≡ b.end) × (row.start < row.end) };
+
+    fn from(booking: Booking) -> BookingRow {
+        let Booking { start, end } = booking;
+        BookingRow { start, end }
     }
 }

@@ -1,10 +1,11 @@
 ghost use Rattle.std.specs.Prelude.{◌≡◌};
+ghost use Rattle.std.specs.Ordering.{partial_lt};
 ghost use Rattle.kinds.specs.Kinds.{Ops, Laws};
 
 // A kind of entry: what an ordered map with a sum over each part needs of its entries.
 // `ops` says what the functions mean, and every kind proves the laws of that meaning.
-pub trait Kind: Copy {
-    type Key: Copy;
+pub trait Kind: Copy + Eq {
+    type Key: Copy + Ord;
 
     type Sum: Copy;
 
@@ -12,16 +13,13 @@ pub trait Kind: Copy {
 
     ghost ops: { Ops Self Self.Key Self.Sum Self.Limit };
 
+    // The sum of no entries.
+    const NEUTRAL: Self::Sum;
+
+    ghost NEUTRAL: { Self.Sum };
+
     fn key(self) -> Self::Key
         ensures { result ≡ ops.key self };
-
-    // Whether `a` stands before `b` in a map.
-    fn less(a: Self::Key, b: Self::Key) -> bool
-        ensures { result ≡ ops.less a b };
-
-    // Whether the entries are equal in every field.
-    fn same(self, other: Self) -> bool
-        ensures { result ≡ ops.same self other };
 
     // The sum of this entry alone.
     fn measure(self) -> Self::Sum
@@ -31,10 +29,6 @@ pub trait Kind: Copy {
     fn combine(a: Self::Sum, b: Self::Sum) -> Self::Sum
         ensures { result ≡ ops.combine a b };
 
-    // The sum of no entries.
-    fn neutral() -> Self::Sum
-        ensures { result ≡ ops.neutral };
-
     // One entry from two with the same key.
     fn blend(self, other: Self) -> Self
         ensures { result ≡ ops.blend self other };
@@ -43,4 +37,25 @@ pub trait Kind: Copy {
         ensures { result ≡ ops.passes sum limit };
 
     ghost lawful: { Laws ops };
+
+    ghost neutral_is: { NEUTRAL ≡ ops.neutral };
+
+    // `less` is the order of the keys, and `same` the equality of entries.
+    ghost ordered: { (a b : Self.Key) → partial_lt Self.Key.PartialOrd.partial_cmp a b ≡ ops.less a b };
+
+    ghost compared: { (x y : Self) → Self.PartialEq.eq x y ≡ ops.same x y };
+
+    // Whether `a` stands before `b` in a map.
+    final fn less(a: Self::Key, b: Self::Key) -> bool
+        ensures { result ≡ ops.less a b }
+    {
+        a < b
+    }
+
+    // Whether the entries are equal in every field.
+    final fn same(self, other: Self) -> bool
+        ensures { result ≡ ops.same self other }
+    {
+        self == other
+    }
 }

@@ -1,55 +1,57 @@
-ghost use Rattle.std.specs.Prelude.{◌≡◌, true, false, IfOk, Ok, Err, MatchOption, MatchResult, nat_lt};
-ghost use Rattle.kinds.specs.Labels.{allowed, bytes_of, is_label, first_wrong, reading};
+ghost use Rattle.std.specs.Prelude.{◌≡◌, true, false, not, Ok, Err, IfOk, MatchResult, nat_lt, position};
+ghost use Rattle.kinds.specs.Labels.{allowed, bytes_of, is_label, reading};
+
+use crate::not_a_label::NotALabel;
 
 // The label of a cartridge: eight bytes, each A to Z or 0 to 9, as the number that they write with the first byte highest.
-// A table holds the number; a label is made from it, or from bytes, by its check.
-#[derive(Clone, Copy)]
+// A table holds the number; a label is made from it, or from bytes, by its check. The order of labels is that of their numbers.
+#[derive(Clone, Copy, PartialEq, Eq, PartialOrd, Ord)]
 pub struct Label {
     number: u64,
     ghost lettered: { is_label number ≡ true },
 }
 
-// Bytes that are no label: the place of the first wrong byte, counted from 0, or 8 where there are not eight bytes.
-#[derive(Clone, Copy, PartialEq, Eq, Debug)]
-pub struct NotALabel {
-    pub place: u8,
+impl TryFrom<&[u8]> for Label {
+    type Error = NotALabel;
+
+    ghost try_from_gives = { λ bytes r. MatchResult r
+        (λ l. (reading bytes.now ≡ Ok l.number) × (bytes_of l.number ≡ bytes.now))
+        (λ e. reading bytes.now ≡ Err e) };
+
+    fn try_from(bytes: &[u8]) -> Result<Label, NotALabel> {
+        let Ok(eight) = <[u8; 8]>::try_from(bytes) else {
+            return Err(NotALabel::WrongLength);
+        };
+        Label::try_from(u64::from_be_bytes(eight))
+    }
+}
+
+impl TryFrom<u64> for Label {
+    type Error = NotALabel;
+
+    ghost try_from_gives = { λ number r. MatchResult r
+        (λ l. (l.number ≡ number) × (is_label number ≡ true))
+        (λ e. (reading (bytes_of number) ≡ Err e) × (is_label number ≡ false)) };
+
+    fn try_from(number: u64) -> Result<Label, NotALabel> {
+        match first_wrong(&number.to_be_bytes()) {
+            None => Ok(Label { number }),
+            Some(place) => Err(NotALabel::WrongByte { place: place as u8 }),
+        }
+    }
+}
+
+impl From<Label> for u64 {
+    ghost from_gives = { λ l number. (number ≡ l.number) × (is_label number ≡ true) };
+
+    fn from(label: Label) -> u64 {
+        let Label { number } = label;
+        number
+    }
 }
 
 impl Label {
-    pub fn read(bytes: &[u8]) -> Result<Label, NotALabel>
-        ensures value { MatchResult result (λ l. reading bytes.now ≡ Ok l.number) (λ e. reading bytes.now ≡ Err e.place) }
-        ensures undone { IfOk result (λ l. bytes_of l.number ≡ bytes.now) }
-    {
-        let [a, b, c, d, e, f, g, h] = bytes else {
-            return Err(NotALabel { place: 8 });
-        };
-        let place = first_wrong(bytes);
-        if place < 8 {
-            return Err(NotALabel { place: place as u8 });
-        }
-        Ok(Label {
-            number: u64::from_be_bytes([*a, *b, *c, *d, *e, *f, *g, *h]),
-        })
-    }
-
-    // None where a byte of the number is not allowed.
-    pub fn from_number(number: u64) -> Option<Label>
-        ensures { MatchOption result (is_label number ≡ false) (λ l. (l.number ≡ number) × (is_label number ≡ true)) }
-    {
-        if is_label(number) {
-            Some(Label { number })
-        } else {
-            None
-        }
-    }
-
-    pub fn number(self) -> u64
-        ensures { (result ≡ self.number) × (is_label result ≡ true) }
-    {
-        let Label { number } = self;
-        number
-    }
-
+    #[tactic(auto, using(crate::proofs::Reading::reads_back))]
     pub fn to_bytes(self) -> [u8; 8]
         ensures value { result ≡ bytes_of self.number }
         ensures undone { reading result ≡ Ok self.number }
@@ -57,18 +59,11 @@ impl Label {
         self.number.to_be_bytes()
     }
 
-    // The order of labels is the order of their numbers.
     pub fn less(self, other: Label) -> bool
         ensures { result ≡ nat_lt self.number other.number }
     {
-        self.number < other.number
+        self < other
     }
-}
-
-fn is_label(number: u64) -> bool
-    ensures { result ≡ is_label number }
-{
-    first_wrong(&number.to_be_bytes()) == 8
 }
 
 fn is_allowed(byte: u8) -> bool
@@ -77,14 +72,9 @@ fn is_allowed(byte: u8) -> bool
     byte.is_ascii_uppercase() | byte.is_ascii_digit()
 }
 
-// The place of the first byte that is not allowed, or how many bytes there are.
-fn first_wrong(bytes: &[u8]) -> usize
-    ensures { result ≡ first_wrong 0 bytes.now }
+// The place of the first byte that is not allowed.
+fn first_wrong(bytes: &[u8]) -> Option<usize>
+    ensures { result ≡ position (λ b. not (allowed b)) bytes.now }
 {
-    for (place, byte) in bytes.iter().enumerate() {
-        if !is_allowed(*byte) {
-            return place;
-        }
-    }
-    bytes.len()
+    bytes.iter().position(|byte| !is_allowed(*byte))
 }

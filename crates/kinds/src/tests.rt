@@ -8,9 +8,9 @@ use std::test::Fail;
 
 // The place at which bytes are refused, and 255 where they are a label.
 fn refused_at(bytes: &[u8]) -> u8 {
-    match Label::read(bytes) {
+    match Label::try_from(bytes) {
         Ok(_) => 255,
-        Err(refused) => refused.place,
+        Err(refused) => refused.place(),
     }
 }
 
@@ -38,18 +38,16 @@ fn labels_name_the_first_wrong_byte(rt: HostRuntime) {
 
 #[test]
 fn labels_are_read_and_written(rt: HostRuntime) -> Result<(), Fail> {
-    let label = Label::read(b"A00001L8")?;
-    assert_eq!(rt; label.number(), 0x4130_3030_3031_4C38);
+    let label = Label::try_from(b"A00001L8".as_slice())?;
+    assert_eq!(rt; u64::from(label), 0x4130_3030_3031_4C38);
     assert_eq!(rt; label.to_bytes(), *b"A00001L8");
-    let Some(next) = Label::from_number(0x4130_3030_3032_4C38) else {
-        return Err(Fail::new("a label"));
-    };
+    let next = Label::try_from(0x4130_3030_3032_4C38)?;
     assert!(rt; label.less(next) & !next.less(label) & !label.less(label));
     assert!(rt;
-        Label::from_number(0x4130_3030_3032_4C2D).is_none(),
+        Label::try_from(0x4130_3030_3032_4C2D).is_err(),
         "a hyphen at the end"
     );
-    assert!(rt; Label::from_number(0).is_none());
+    assert!(rt; Label::try_from(0).is_err());
     Ok(())
 }
 
@@ -59,21 +57,21 @@ fn bookings_end_after_they_start(rt: HostRuntime) -> Result<(), Fail> {
         return Err(Fail::new("5 to 6"));
     };
     assert_eq!(rt; (booking.start(), booking.end()), (5, 6));
-    assert_eq!(rt; booking.row().end, 6);
+    assert_eq!(rt; BookingRow::from(booking).end, 6);
     assert!(rt; Booking::new(5, 5).is_none() & Booking::new(6, 5).is_none());
     assert!(rt;
-        Booking::from_row(BookingRow {
+        Booking::try_from(BookingRow {
             start: 0,
             end: u32::MAX,
         })
-        .is_some()
+        .is_ok()
     );
     assert!(rt;
-        Booking::from_row(BookingRow {
+        Booking::try_from(BookingRow {
             start: u32::MAX,
             end: u32::MAX,
         })
-        .is_none()
+        .is_err()
     );
     Ok(())
 }
@@ -97,7 +95,7 @@ fn slots_sum_gigabytes_and_find_the_earliest_day(rt: HostRuntime) {
         "saturates"
     );
     assert_eq!(rt;
-        <SlotRow as Kind>::combine(<SlotRow as Kind>::neutral(), (7, 65535)),
+        <SlotRow as Kind>::combine(<SlotRow as Kind>::NEUTRAL, (7, 65535)),
         (7, 65535)
     );
     assert!(rt;
@@ -120,7 +118,7 @@ fn bookings_sum_to_the_latest_end(rt: HostRuntime) {
     };
     assert_eq!(rt;
         <BookingRow as Kind>::combine(
-            <BookingRow as Kind>::neutral(),
+            <BookingRow as Kind>::NEUTRAL,
             <BookingRow as Kind>::measure(first)
         ),
         660
@@ -150,7 +148,7 @@ fn labels_sum_to_the_bits_of_their_classes(rt: HostRuntime) {
     assert_eq!(rt;
         <LabelRow as Kind>::combine(
             <LabelRow as Kind>::measure(first),
-            <LabelRow as Kind>::neutral()
+            <LabelRow as Kind>::NEUTRAL
         ),
         5
     );

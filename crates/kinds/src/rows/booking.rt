@@ -1,10 +1,10 @@
-ghost use Rattle.std.specs.Prelude.{max, true, ◌&&◌, ◌==◌, nat_lt};
+ghost use Rattle.std.specs.Prelude.{max, true, ◌&&◌, ◌==◌, nat_lt, refl};
 ghost use Rattle.std.proofs.Common.{rules};
 
 use crate::kind::Kind;
 
 // A drive booked from a start minute to an end minute, as a row of plain numbers, whatever they are.
-#[derive(Clone, Copy)]
+#[derive(Clone, Copy, PartialEq, Eq, Debug)]
 pub struct BookingRow {
     pub start: u32,
     pub end: u32,
@@ -17,6 +17,10 @@ impl Kind for BookingRow {
     type Sum = u32;
 
     type Limit = u32;
+
+    const NEUTRAL: u32 = 0;
+
+    ghost NEUTRAL = { 0 };
 
     ghost ops = { record {
       key = λ e. e.start;
@@ -32,16 +36,14 @@ impl Kind for BookingRow {
 
     ghost lawful = { Prim.search rules };
 
+    ghost neutral_is = { refl };
+
+    ghost ordered = { Prim.search rules };
+
+    ghost compared = { Prim.search rules };
+
     fn key(self) -> u32 {
         self.start
-    }
-
-    fn less(a: u32, b: u32) -> bool {
-        a < b
-    }
-
-    fn same(self, other: BookingRow) -> bool {
-        (self.start == other.start) & (self.end == other.end)
     }
 
     fn measure(self) -> u32 {
@@ -50,10 +52,6 @@ impl Kind for BookingRow {
 
     fn combine(a: u32, b: u32) -> u32 {
         a.max(b)
-    }
-
-    fn neutral() -> u32 {
-        0
     }
 
     fn blend(self, other: BookingRow) -> BookingRow {

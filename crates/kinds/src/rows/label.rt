@@ -6,7 +6,7 @@ ghost use Rattle.kinds.specs.Bitwise.{or_assoc, shares_either};
 use crate::kind::Kind;
 
 // A label with the slot and the class of its cartridge, as a row of plain numbers: the label as its number.
-#[derive(Clone, Copy)]
+#[derive(Clone, Copy, PartialEq, Eq, Debug)]
 pub struct LabelRow {
     pub label: u64,
     pub address: u16,
@@ -20,6 +20,10 @@ impl Kind for LabelRow {
     type Sum = u8;
 
     type Limit = u8;
+
+    const NEUTRAL: u8 = 0;
+
+    ghost NEUTRAL = { 0 };
 
     ghost ops = { record {
       key = λ e. e.label;
@@ -42,16 +46,14 @@ impl Kind for LabelRow {
       passes_either = shares_either;
     } };
 
+    ghost neutral_is = { refl };
+
+    ghost ordered = { Prim.search rules };
+
+    ghost compared = { Prim.search rules };
+
     fn key(self) -> u64 {
         self.label
-    }
-
-    fn less(a: u64, b: u64) -> bool {
-        a < b
-    }
-
-    fn same(self, other: LabelRow) -> bool {
-        (self.label == other.label) & (self.address == other.address) & (self.class == other.class)
     }
 
     fn measure(self) -> u8 {
@@ -60,10 +62,6 @@ impl Kind for LabelRow {
 
     fn combine(a: u8, b: u8) -> u8 {
         a | b
-    }
-
-    fn neutral() -> u8 {
-        0
     }
 
     fn blend(self, other: LabelRow) -> LabelRow {

@@ -1,11 +1,11 @@
-ghost use Rattle.std.specs.Prelude.{◌+◌, min, ◌&&◌, ◌==◌, nat_le, nat_lt};
+ghost use Rattle.std.specs.Prelude.{◌+◌, min, ◌&&◌, ◌==◌, nat_le, nat_lt, refl};
 ghost use Rattle.std.proofs.Common.{rules};
 
 use crate::kind::Kind;
 
 // A cartridge in a slot, as a row of plain numbers: the label as its number, the day of its next check.
 // The order of the fields makes the row 16 bytes.
-#[derive(Clone, Copy)]
+#[derive(Clone, Copy, PartialEq, Eq, Debug)]
 pub struct SlotRow {
     pub label: u64,
     pub gigabytes: u32,
@@ -21,6 +21,10 @@ impl Kind for SlotRow {
 
     type Limit = u16;
 
+    const NEUTRAL: (u64, u16) = (0, 65535);
+
+    ghost NEUTRAL = { (0, 65535) };
+
     ghost ops = { record {
       key = λ e. e.address;
       less = nat_lt;
@@ -35,31 +39,22 @@ impl Kind for SlotRow {
 
     ghost lawful = { Prim.search rules };
 
+    ghost neutral_is = { refl };
+
+    ghost ordered = { Prim.search rules };
+
+    ghost compared = { Prim.search rules };
+
     fn key(self) -> u16 {
         self.address
     }
 
-    fn less(a: u16, b: u16) -> bool {
-        a < b
-    }
-
-    fn same(self, other: SlotRow) -> bool {
-        (self.label == other.label)
-            & (self.gigabytes == other.gigabytes)
-            & (self.address == other.address)
-            & (self.day == other.day)
-    }
-
     fn measure(self) -> (u64, u16) {
-        (self.gigabytes as u64, self.day)
+        (u64::from(self.gigabytes), self.day)
     }
 
     fn combine(a: (u64, u16), b: (u64, u16)) -> (u64, u16) {
         (a.0.saturating_add(b.0), a.1.min(b.1))
-    }
-
-    fn neutral() -> (u64, u16) {
-        (0, 65535)
     }
 
     fn blend(self, other: SlotRow) -> SlotRow {
