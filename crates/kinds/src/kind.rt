@@ -1,5 +1,5 @@
 ghost use Rattle.std.specs.Prelude.{◌≡◌};
-ghost use Rattle.std.specs.Ordering.{partial_lt};
+ghost use Rattle.std.specs.Ordering.{is_lt};
 ghost use Rattle.kinds.specs.Kinds.{Ops, Laws};
 
 // A kind of entry: what an ordered map with a sum over each part needs of its entries.
@@ -41,7 +41,7 @@ pub trait Kind: Copy + Eq {
     ghost neutral_is: { NEUTRAL ≡ ops.neutral };
 
     // `less` is the order of the keys, and `same` the equality of entries.
-    ghost ordered: { (a b : Self.Key) → partial_lt Self.Key.PartialOrd.partial_cmp a b ≡ ops.less a b };
+    ghost ordered: { (a b : Self.Key) → is_lt (Self.Key.Ord.cmp a b) ≡ ops.less a b };
 
     ghost compared: { (x y : Self) → Self.PartialEq.eq x y ≡ ops.same x y };
 
