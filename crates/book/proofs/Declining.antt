@@ -2,7 +2,7 @@
 use Rattle.std.proofs.Common.{◌≡◌, ℕ, Bool, true, false, List, Some, None, Option, sym, refl, ap, subst, inl, inr, arith}
 use Rattle.std.proofs.lemmas.Bool.{both_ways}
 use Rattle.kinds.specs.Kinds.{Ops}
-use Rattle.book.specs.Keyed.{or_else}
+use Rattle.std.specs.Option.{option_or}
 use Rattle.book.specs.Calls.{find, size, position, rank, sum, page, Call, empty, share, build, put, remove, window, merge, common, without, sift, give_back, ask, compare, pick, Answer, given, returned, says, refused, entry, Plan, stop, store, strike, tell, choose, bounded}
 use Rattle.book.specs.Book.{Book, due, under, plan, made, moved, Made, Right}
 use Rattle.book.specs.Numbers.{capped}
@@ -27,17 +27,17 @@ module _ {E K S L : Type 0} (o : Ops E K S L) where
   Gives b m (choose l xs) r = r ≡ None
 
   module _ (b : Book E) (m : Bool) where
-    at_one : (n : ℕ) (h : Option (List E)) (f : List E → Plan E S L) (r : Option Refusal) → ((xs : List E) → Gives b m (f xs) r) → Gives b m (under n h f) (or_else (missing n h None) r)
+    at_one : (n : ℕ) (h : Option (List E)) (f : List E → Plan E S L) (r : Option Refusal) → ((xs : List E) → Gives b m (f xs) r) → Gives b m (under n h f) (option_or (missing n h None) r)
     at_one n None f r g = refl
     at_one n (Some xs) f r g = g xs
 
     at_two : (n k : ℕ) (h i : Option (List E)) (f : List E → List E → Plan E S L) (r : Option Refusal) → ((xs ys : List E) → Gives b m (f xs ys) r) →
-        Gives b m (under n h (λ xs. under k i (f xs))) (or_else (missing n h (missing k i None)) r)
+        Gives b m (under n h (λ xs. under k i (f xs))) (option_or (missing n h (missing k i None)) r)
     at_two n k None i f r g = refl
     at_two n k (Some xs) None f r g = refl
     at_two n k (Some xs) (Some ys) f r g = g xs ys
 
-    at_bounds : (low high : K) (c : Bool) → o.less high low ≡ c → (p : Plan E S L) (r : Option Refusal) → Gives b m p r → Gives b m (bounded o low high p) (or_else (crossed o low high) r)
+    at_bounds : (low high : K) (c : Bool) → o.less high low ≡ c → (p : Plan E S L) (r : Option Refusal) → Gives b m p r → Gives b m (bounded o low high p) (option_or (crossed o low high) r)
     at_bounds low high true e p r g = rw e refl
     at_bounds low high false e p r g = rw e g
 

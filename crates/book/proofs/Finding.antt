@@ -1,14 +1,16 @@
 -- What find answers after each operation.
 use Rattle.std.proofs.Common.{◌≡◌, Bool, true, false, cond, not, List, [], ◌∷◌, is_some, Some, None, Option, sym, refl, ◌∙◌, subst, arith}
+use Rattle.std.specs.Option.{option_or}
 use Rattle.kinds.specs.Kinds.{Ops, Laws}
-use Rattle.book.specs.Lists.{kept, Rising, same_key, has_key, within, passing, find, put, put_all, blended, merge, common}
-use Rattle.book.specs.Keyed.{if_so, or_else, latest, either_of, both_of, KeyByKey}
+use Rattle.std.specs.List.{filter}
+use Rattle.book.specs.Lists.{Rising, same_key, has_key, within, passing, find, put, put_all, blended, merge, common}
+use Rattle.book.specs.Keyed.{if_so, latest, either_of, both_of, KeyByKey}
 use Rattle.book.proofs.Orders.{Above, same_only, same_itself, all_above, found_at, find_above}
 use Rattle.book.proofs.Rising.{met_key}
 
 module _ {E K S L : Type 0} (o : Ops E K S L) (laws : Laws o) where
   -- the entries that a test on their keys keeps
-  find-kept : (q : K → Bool) (k : K) (xs : List E) → find o k (kept (λ x. q (o.key x)) xs) ≡ cond (q k) (find o k xs) None
+  find-kept : (q : K → Bool) (k : K) (xs : List E) → find o k (filter (λ x. q (o.key x)) xs) ≡ cond (q k) (find o k xs) None
   find-kept q k [] = grind arith
   find-kept q k (x ∷ xs) = let i = find-kept q k xs in let s = same_only o laws (o.key x) k in grind arith
 
@@ -17,7 +19,7 @@ module _ {E K S L : Type 0} (o : Ops E K S L) (laws : Laws o) where
   find-after k x xs r s = find_above o laws k xs (subst (λ (j : K). Above o j xs) (same_only o laws (o.key x) k s) r.0)
 
   -- the entries that any test keeps
-  pub find-passing : (p : E → Bool) (k : K) (xs : List E) → Rising o xs → find o k (kept p xs) ≡ if_so p (find o k xs)
+  pub find-passing : (p : E → Bool) (k : K) (xs : List E) → Rising o xs → find o k (filter p xs) ≡ if_so p (find o k xs)
   find-passing p k [] r = refl
   find-passing p k (x ∷ xs) r = let i = find-passing p k xs r.1 in let n = find-after k x xs r in grind arith
 
@@ -30,7 +32,7 @@ module _ {E K S L : Type 0} (o : Ops E K S L) (laws : Laws o) where
       let no = laws.order.irreflexive k in
       grind arith
 
-  find-build : (k : K) (es ys : List E) → find o k (put_all o es ys) ≡ or_else (latest o k es) (find o k ys)
+  find-build : (k : K) (es ys : List E) → find o k (put_all o es ys) ≡ option_or (latest o k es) (find o k ys)
   find-build k [] ys = refl
   find-build k (e ∷ es) ys = let i = find-build k es (put o e ys) in let p = find-put k e ys in grind arith
 

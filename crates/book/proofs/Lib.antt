@@ -10,4 +10,3 @@ pub mod Places
 pub mod Placing
 pub mod Rising
 pub mod Summing
-pub mod Sweeping

@@ -1,10 +1,13 @@
 -- The place of a key among rising keys: a search by halves finds it, and an entry is put there.
-use Rattle.std.proofs.Common.{◌≡◌, ℕ, zero, suc, ◌+◌, ◌<◌, ◌≤◌, Bool, true, false, cond, List, [], ◌∷◌, length, get_or, set, is_some, Some, None, sym, refl, ap, ◌∙◌, subst, inl, inr, arith}
-use Rattle.std.proofs.lemmas.List.{get_or_read}
+use Rattle.std.proofs.Common.{Ordering, Less, Equal, Greater, ◌≡◌, ℕ, zero, suc, ◌<◌, ◌≤◌, Bool, true, false, cond, List, [], ◌∷◌, length, get_or, set, is_some, Some, None, Ok, Err, Result, MatchResult, sym, refl, ap, ◌∙◌, subst, inl, inr, ◌⊎◌, arith}
 use Rattle.std.proofs.lemmas.Bool.{cases_Bool, cases_eq, both_ways}
 use Rattle.std.specs.List.{insert}
+use Rattle.std.specs.Ordering.{is_lt, ordering_index, ordering_reverse}
+use Rattle.std.specs.Cmp.{IsTotalOrder}
+use Rattle.std.specs.List.Sorted.{IsNonDecreasingBy, IsBinarySearchResult, IsSearchInRange}
 use Rattle.kinds.specs.Kinds.{Ops, Laws}
-use Rattle.book.specs.Lists.{kept, All, Rising, find, rank, put}
+use Rattle.std.specs.List.{filter}
+use Rattle.book.specs.Lists.{All, Rising, find, rank, put}
 use Rattle.book.specs.Sorted.{StandsAt, GoesTo}
 use Rattle.book.proofs.Kept.{kept_none}
 use Rattle.book.proofs.Orders.{Above, not_back, all_above, find_above}
@@ -16,12 +19,11 @@ all_get_or P (x ∷ xs) a zero d h = a.0
 all_get_or P (x ∷ xs) a (suc i) d h = all_get_or P xs a.1 i d (omega arith)
 
 module _ {E K S L : Type 0} (o : Ops E K S L) where
-  -- every key before low is less than k, and none from high on is
-  pub record Narrowed (k : K) (xs : List E) (low high : ℕ) : Type 0 where
-    pub ordered : low ≤ high
-    pub inside : high ≤ length xs
-    pub below : (i : ℕ) (d : E) → i < low → o.less (o.key (get_or xs i d)) k ≡ true
-    pub above : (i : ℕ) (d : E) → high ≤ i → i < length xs → o.less (o.key (get_or xs i d)) k ≡ false
+  -- every key before a place is less than k, and none from it on is
+  pub record Parted (k : K) (xs : List E) (place : ℕ) : Type 0 where
+    pub inside : place ≤ length xs
+    pub below : (i : ℕ) (d : E) → i < place → o.less (o.key (get_or xs i d)) k ≡ true
+    pub above : (i : ℕ) (d : E) → place ≤ i → i < length xs → o.less (o.key (get_or xs i d)) k ≡ false
 
   rises_at : (xs : List E) → Rising o xs → (i j : ℕ) (d e : E) → i < j → j < length xs → o.less (o.key (get_or xs i d)) (o.key (get_or xs j e)) ≡ true
   rises_at [] r i j d e h l = absurd (omega arith)
@@ -32,7 +34,7 @@ module _ {E K S L : Type 0} (o : Ops E K S L) where
   abbrev smaller : K → E → Bool
   smaller k x = o.less (o.key x) k
 
-  kept_cons : (p : E → Bool) (b : Bool) (x : E) (xs : List E) → p x ≡ b → length (kept p (x ∷ xs)) ≡ cond b (suc (length (kept p xs))) (length (kept p xs))
+  kept_cons : (p : E → Bool) (b : Bool) (x : E) (xs : List E) → p x ≡ b → length (filter p (x ∷ xs)) ≡ cond b (suc (length (filter p xs))) (length (filter p xs))
   kept_cons p true x xs e = rw e
   kept_cons p false x xs e = rw e
 
@@ -44,51 +46,15 @@ module _ {E K S L : Type 0} (o : Ops E K S L) where
         | inr e ↦ omega (arith, kept_cons (smaller k) false x xs e, rank_le k xs)
       ]
 
-  -- where the search has narrowed to one place, that is the rank
-  pub ranked : (k : K) (xs : List E) (low : ℕ) → Narrowed k xs low low → low ≡ rank o k xs
-  ranked k [] low n = omega (arith, n.inside)
+  -- that place is the rank
+  ranked : (k : K) (xs : List E) (place : ℕ) → Parted k xs place → place ≡ rank o k xs
+  ranked k [] place n = omega (arith, n.inside)
   ranked k (x ∷ xs) zero n =
-      let rest = ranked k xs 0 (record { ordered = omega arith; inside = omega arith; below = λ i d h. absurd (omega arith); above = λ i d h l. n.above (suc i) d (omega arith) (omega arith) }) in
+      let rest = ranked k xs 0 (record { inside = omega arith; below = λ i d h. absurd (omega arith); above = λ i d h l. n.above (suc i) d (omega arith) (omega arith) }) in
       omega (arith, kept_cons (smaller k) false x xs (n.above 0 x (omega arith) (omega arith)))
-  ranked k (x ∷ xs) (suc low) n =
-      let rest = ranked k xs low (record { ordered = omega arith; inside = omega (arith, n.inside); below = λ i d h. n.below (suc i) d (omega arith); above = λ i d h l. n.above (suc i) d (omega arith) (omega arith) }) in
+  ranked k (x ∷ xs) (suc place) n =
+      let rest = ranked k xs place (record { inside = omega (arith, n.inside); below = λ i d h. n.below (suc i) d (omega arith); above = λ i d h l. n.above (suc i) d (omega arith) (omega arith) }) in
       omega (arith, kept_cons (smaller k) true x xs (n.below 0 x (omega arith)))
-
-  module _ (laws : Laws o) (k : K) (xs : List E) (rising : Rising o xs) (low high middle : ℕ) (n : Narrowed k xs low high)
-      (from : low ≤ middle) (to : middle < high) (x : E) (is : x ≡ get_or xs middle x) where
-    at_middle : (d : E) → get_or xs middle d ≡ x
-    at_middle d = sym (get_or_read xs middle x (omega (arith, n.inside)) is d)
-
-    pub upper_half : smaller k x ≡ true → Narrowed k xs (middle + 1) high
-    upper_half less = record {
-      ordered = omega arith;
-      inside = n.inside;
-      below = λ i d h.
-          elim (cases_eq i middle) [
-            | inl e ↦ subst (λ y. smaller k y ≡ true) (sym (ap (λ j. get_or xs j d) e ∙ at_middle d)) less
-            | inr e ↦
-                let up = subst (λ y. o.less (o.key (get_or xs i d)) (o.key y) ≡ true) (at_middle x) (rises_at xs rising i middle d x (omega arith) (omega (arith, n.inside))) in
-                laws.order.transitive (o.key (get_or xs i d)) (o.key x) k up less
-          ];
-      above = n.above;
-    }
-
-    pub lower_half : smaller k x ≡ false → Narrowed k xs low middle
-    lower_half not_less = record {
-      ordered = from;
-      inside = omega (arith, n.inside);
-      below = n.below;
-      above = λ i d h l.
-          elim (cases_eq i middle) [
-            | inl e ↦ subst (λ y. smaller k y ≡ false) (sym (ap (λ j. get_or xs j d) e ∙ at_middle d)) not_less
-            | inr e ↦
-                let up = subst (λ y. o.less (o.key y) (o.key (get_or xs i d)) ≡ true) (at_middle x) (rises_at xs rising middle i x d (omega arith) l) in
-                elim (cases_Bool (smaller k (get_or xs i d))) [
-                  | inl yes_less ↦ absurd (both_ways (smaller k x) not_less (laws.order.transitive (o.key x) (o.key (get_or xs i d)) k up yes_less))
-                  | inr no_less ↦ no_less
-                ]
-          ];
-    }
 
   module _ (laws : Laws o) (k : K) where
     -- an entry that is not before k has nothing before k after it
@@ -157,3 +123,78 @@ module _ {E K S L : Type 0} (o : Ops E K S L) where
             puts = missing.1;
             rises = λ e same. subst (Rising o) (sym (missing.1 e same)) (rising_put o laws e xs rising);
           }
+
+-- there is an element at a place inside a list
+element : {E : Type 0} (xs : List E) (i : ℕ) → i < length xs → (x : E) × (x ≡ get_or xs i x)
+element [] i h = absurd (omega arith)
+element (x ∷ xs) zero h = (x, refl)
+element (x ∷ xs) (suc i) h = element xs i (omega arith)
+
+three_ways : (c : Ordering) → (c ≡ Less) ⊎ ((c ≡ Equal) ⊎ (c ≡ Greater))
+three_ways Less = inl refl
+three_ways Equal = inr (inl refl)
+three_ways Greater = inr (inr refl)
+
+index_at_most : (c : Ordering) → ordering_index c ≤ 2
+index_at_most Less = omega arith
+index_at_most Equal = omega arith
+index_at_most Greater = omega arith
+
+-- what a binary search by the order of keys answers, of entries whose keys rise
+module _ {E K S L : Type 0} (o : Ops E K S L) (laws : Laws o) (cmp : K → K → Ordering) (order : IsTotalOrder cmp) (ordered : (a b : K) → is_lt (cmp a b) ≡ o.less a b) where
+  less_by : (a b : K) (c : Ordering) → cmp a b ≡ c → o.less a b ≡ is_lt c
+  less_by a b c e = sym (ordered a b) ∙ ap is_lt e
+
+  more_by : (a b : K) (c : Ordering) → cmp a b ≡ c → o.less b a ≡ is_lt (ordering_reverse c)
+  more_by a b c e = less_by b a (ordering_reverse c) (order.antisymm b a ∙ ap ordering_reverse e)
+
+  equal_by : (a b : K) → cmp a b ≡ Equal → a ≡ b
+  equal_by a b e = laws.order.total a b (less_by a b Equal e) (more_by a b Equal e)
+
+  less_gives : (a b : K) → o.less a b ≡ true → cmp a b ≡ Less
+  less_gives a b h =
+      elim (three_ways (cmp a b)) [
+        | inl e ↦ e
+        | inr (inl e) ↦ absurd (both_ways (o.less a b) (less_by a b Equal e) h)
+        | inr (inr e) ↦ absurd (both_ways (o.less a b) (less_by a b Greater e) h)
+      ]
+
+  module _ (k : K) (xs : List E) (rising : Rising o xs) where
+    climbs : IsNonDecreasingBy (λ y. ordering_index (cmp (o.key y) k)) xs
+    climbs i j d h l =
+        let low = o.key (get_or xs i d) in
+        let high = o.key (get_or xs j d) in
+        elim (cases_eq i j) [
+          | inl e ↦ omega (arith, ap (λ n. ordering_index (cmp (o.key (get_or xs n d)) k)) e)
+          | inr ne ↦
+              let up = rises_at o xs rising i j d d (omega arith) l in
+              elim (three_ways (cmp high k)) [
+                | inl e ↦ omega (arith, ap ordering_index (less_gives low k (laws.order.transitive low high k up (less_by high k Less e))))
+                | inr (inl e) ↦ omega (arith, ap ordering_index (less_gives low k (subst (λ b. o.less low b ≡ true) (equal_by high k e) up)))
+                | inr (inr e) ↦ omega (arith, index_at_most (cmp low k), ap ordering_index e)
+              ]
+        ]
+
+    pub placed : (r : Result ℕ ℕ) → IsSearchInRange r (length xs) → IsBinarySearchResult (λ y. cmp (o.key y) k) xs r → MatchResult r (StandsAt o k xs) (GoesTo o k xs)
+    placed (Ok i) inside at =
+        let x = element xs i inside in
+        let is : (d : E) → o.key (get_or xs i d) ≡ k = λ d. equal_by (o.key (get_or xs i d)) k (at d) in
+        let here : o.key x.0 ≡ k = ap o.key x.1 ∙ is x.0 in
+        let parts : Parted o k xs i = record {
+          inside = omega arith;
+          below = λ j d h. subst (λ b. o.less (o.key (get_or xs j d)) b ≡ true) (is d) (rises_at o xs rising j i d d h inside);
+          above = λ j d h l.
+              elim (cases_eq j i) [
+                | inl e ↦ subst (λ n. o.less (o.key (get_or xs n d)) k ≡ false) (sym e) (less_by (o.key (get_or xs i d)) k Equal (at d))
+                | inr ne ↦ not_back o laws k (o.key (get_or xs j d)) (subst (λ a. o.less a (o.key (get_or xs j d)) ≡ true) (is d) (rises_at o xs rising i j d d (omega arith) l))
+              ];
+        } in
+        stands_at o laws k xs rising i (ranked o k xs i parts) x.0 inside x.1 (subst (λ a. o.less k a ≡ false) (sym here) (laws.order.irreflexive k))
+    placed (Err i) inside at =
+        let split = at climbs in
+        let parts : Parted o k xs i = record {
+          inside = inside;
+          below = λ j d h. less_by (o.key (get_or xs j d)) k Less (split.0 j d (omega arith) h);
+          above = λ j d h l. less_by (o.key (get_or xs j d)) k Greater (split.1 j d h l);
+        } in
+        goes_to o laws k xs rising i (ranked o k xs i parts) (λ d h. more_by (o.key (get_or xs i d)) k Greater (split.1 i d (omega arith) h))

@@ -2,7 +2,8 @@
 use Rattle.std.proofs.Common.{◌≡◌, Bool, true, cond, not, List, [], ◌∷◌, is_some, Some, None, Option, sym, refl, subst}
 use Rattle.std.proofs.lemmas.Bool.{cond_both}
 use Rattle.kinds.specs.Kinds.{Ops, Laws}
-use Rattle.book.specs.Lists.{kept, All, Rising, has_key, within, passing, find, put, put_all, blended, merge, met, common}
+use Rattle.std.specs.List.{filter}
+use Rattle.book.specs.Lists.{All, Rising, has_key, within, passing, find, put, put_all, blended, merge, met, common}
 use Rattle.book.specs.Keyed.{KeepsRising}
 use Rattle.book.proofs.Kept.{all_kept}
 use Rattle.book.proofs.Orders.{Above, all_above, found_at}
@@ -31,11 +32,11 @@ module _ {E K S L : Type 0} (o : Ops E K S L) (laws : Laws o) where
   rising_build [] ys r = r
   rising_build (e ∷ es) ys r = rising_build es (put o e ys) (rising_put e ys r)
 
-  rising_kept : (p : E → Bool) (xs : List E) → Rising o xs → Rising o (kept p xs)
+  rising_kept : (p : E → Bool) (xs : List E) → Rising o xs → Rising o (filter p xs)
   rising_kept p [] r = tt
   rising_kept p (x ∷ xs) r =
       let i = rising_kept p xs r.1 in
-      cond_both (p x) (x ∷ kept p xs) (kept p xs) (Rising o) (λ e. (all_kept (λ y. o.less (o.key x) (o.key y) ≡ true) p xs r.0, i)) (λ e. i)
+      cond_both (p x) (x ∷ filter p xs) (filter p xs) (Rising o) (λ e. (all_kept (λ y. o.less (o.key x) (o.key y) ≡ true) p xs r.0, i)) (λ e. i)
 
   rising_merge : (xs ys : List E) → Rising o xs → Rising o (merge o xs ys)
   rising_merge xs [] r = r

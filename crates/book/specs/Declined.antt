@@ -1,7 +1,7 @@
 -- Which refusal a call gets, by the table of refusals: the first that applies, in the order of their numbers.
 use Rattle.std.specs.Prelude.{◌≡◌, ℕ, Bool, true, false, cond, List, [], ◌∷◌, Some, None, Option}
 use Rattle.kinds.specs.Kinds.{Ops}
-use Rattle.book.specs.Keyed.{or_else}
+use Rattle.std.specs.Option.{option_or}
 use Rattle.book.specs.Calls.{Ask, find, size, position, rank, sum, page, Call, empty, share, build, put, remove, window, merge, common, without, sift, give_back, ask, compare, pick, Answer, refused}
 use Rattle.book.specs.Book.{Book, due, plan, step, Right}
 use Rattle.book.specs.Run.{told_six}
@@ -83,7 +83,7 @@ module _ {E K S L : Type 0} (o : Ops E K S L) where
 
   -- 2, then 3, then 4 and 5 where the call makes a map
   abbrev pub first_reason : Book E → Call E K L → Option Refusal
-  first_reason b c = or_else (first_missing b (numbers_of c)) (or_else (crossed_by c) (cond (makes c) (due b) None))
+  first_reason b c = option_or (first_missing b (numbers_of c)) (option_or (crossed_by c) (cond (makes c) (due b) None))
 
   -- a call gets the first reason that applies and no other; where none does, only a making call is declined, and only by 6
   pub record InOrder : Type 0 where

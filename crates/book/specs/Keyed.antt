@@ -1,5 +1,6 @@
 -- What every operation does, told key by key and place by place, of lists with rising keys.
 use Rattle.std.specs.Prelude.{◌≡◌, ℕ, ◌+◌, Bool, true, false, cond, ◌&&◌, List, [], ◌∷◌, ◌++◌, length, is_some, Some, None, Option, nat_lt}
+use Rattle.std.specs.Option.{option_or}
 use Rattle.kinds.specs.Kinds.{Ops}
 use Rattle.book.specs.Lists.{All, position, page, Rising, same_key, has_key, within, passing, find, rank, put, build, remove, window, sift, without, merge, common, total, sum, equal, Picked}
 
@@ -8,16 +9,11 @@ abbrev pub if_so : {E : Type 0} → (E → Bool) → Option E → Option E
 if_so p None = None
 if_so p (Some x) = cond (p x) (Some x) None
 
--- the first that is there
-abbrev pub or_else : {E : Type 0} → Option E → Option E → Option E
-or_else None b = b
-or_else (Some x) b = Some x
-
 module _ {E K S L : Type 0} (o : Ops E K S L) where
   -- the last of the entries with a key
   abbrev pub latest : K → List E → Option E
   latest k [] = None
-  latest k (e ∷ es) = or_else (latest k es) (cond (has_key o k e) (Some e) None)
+  latest k (e ∷ es) = option_or (latest k es) (cond (has_key o k e) (Some e) None)
 
   -- blend where both are there; then the one that is there
   abbrev pub either_of : Option E → Option E → Option E

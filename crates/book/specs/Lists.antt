@@ -1,22 +1,13 @@
 -- The operations of an ordered map, on the list of its entries with rising keys.
-use Rattle.std.specs.Prelude.{◌≡◌, ℕ, zero, suc, Bool, true, false, cond, not, ◌&&◌, List, [], ◌∷◌, length, take, drop, is_some, Some, None, Option}
+use Rattle.std.specs.Prelude.{slice_get, ◌≡◌, ℕ, Bool, true, false, cond, not, ◌&&◌, List, [], ◌∷◌, length, take, drop, is_some, Some, None, Option}
+use Rattle.std.specs.List.{filter, fold}
 use Rattle.kinds.specs.Kinds.{Ops}
-
--- the elements that pass a test, in their order
-abbrev pub kept : {E : Type 0} → (E → Bool) → List E → List E
-kept p [] = []
-kept p (x ∷ xs) = cond (p x) (x ∷ kept p xs) (kept p xs)
-
 -- every element has P
-abbrev pub All : {E : Type 0} → (E → Type 0) → List E → Type 0
-All P [] = Unit {0}
-All P (x ∷ xs) = P x × All P xs
+pub use Rattle.std.specs.List.{AllByRecursion as All}
 
 -- the entry at a place, counted from 0
 abbrev pub position : {E : Type 0} → ℕ → List E → Option E
-position i [] = None
-position zero (x ∷ xs) = Some x
-position (suc i) (x ∷ xs) = position i xs
+position i xs = slice_get xs i
 
 -- the entries from a place on, as many as there are and as there is room for
 abbrev pub page : {E : Type 0} → ℕ → ℕ → List E → List E
@@ -48,7 +39,7 @@ module _ {E K S L : Type 0} (o : Ops E K S L) where
 
   -- the number of smaller keys
   abbrev pub rank : K → List E → ℕ
-  rank k xs = length (kept (λ x. o.less (o.key x) k) xs)
+  rank k xs = length (filter (λ x. o.less (o.key x) k) xs)
 
   abbrev pub put : E → List E → List E
   put e [] = e ∷ []
@@ -63,16 +54,16 @@ module _ {E K S L : Type 0} (o : Ops E K S L) where
   build es = put_all es []
 
   abbrev pub remove : K → List E → List E
-  remove k xs = kept (λ x. not (has_key k x)) xs
+  remove k xs = filter (λ x. not (has_key k x)) xs
 
   abbrev pub window : K → K → List E → List E
-  window low high xs = kept (λ x. within low high (o.key x)) xs
+  window low high xs = filter (λ x. within low high (o.key x)) xs
 
   abbrev pub sift : L → List E → List E
-  sift l xs = kept (passing l) xs
+  sift l xs = filter (passing l) xs
 
   abbrev pub without : List E → List E → List E
-  without xs ys = kept (λ x. not (is_some (find (o.key x) ys))) xs
+  without xs ys = filter (λ x. not (is_some (find (o.key x) ys))) xs
 
   -- y as it goes into a map that has this entry, or none, under its key
   abbrev pub blended : Option E → E → E
@@ -94,8 +85,7 @@ module _ {E K S L : Type 0} (o : Ops E K S L) where
 
   -- the sum s with every measure of xs combined after it, in the order of the list
   abbrev pub summed : S → List E → S
-  summed s [] = s
-  summed s (x ∷ xs) = summed (o.combine s (o.measure x)) xs
+  summed s xs = fold (λ s x. o.combine s (o.measure x)) s xs
 
   abbrev pub total : List E → S
   total xs = summed o.neutral xs

@@ -1,5 +1,6 @@
 -- The number of each refusal, and what it carries.
 use Rattle.std.specs.Prelude.{ℕ, List, [], ◌∷◌, ◌++◌, codes, decimal}
+use Rattle.kinds.specs.Refused.{place_of}
 use Rattle.book.specs.declared.refusal.Refusal.{Refusal}
 use Rattle.book.specs.declared.refusal.Refusal.TheVariants.{BadTables, NotHeld, CrossedBounds, HoldsTaken, NumbersSpent, NoRoom, NotALabel}
 
@@ -10,7 +11,7 @@ number_of CrossedBounds = 3
 number_of HoldsTaken = 4
 number_of NumbersSpent = 5
 number_of (NoRoom used reserve) = 6
-number_of (NotALabel place) = 7
+number_of (NotALabel why) = 7
 
 abbrev pub carried_by : Refusal → List ℕ
 carried_by BadTables = []
@@ -19,11 +20,7 @@ carried_by CrossedBounds = []
 carried_by HoldsTaken = []
 carried_by NumbersSpent = []
 carried_by (NoRoom used reserve) = used ∷ reserve ∷ []
-carried_by (NotALabel place) = place ∷ []
-
--- what the label reader refuses, at a place
-abbrev pub label_refusal : ℕ → Refusal
-label_refusal place = NotALabel place
+carried_by (NotALabel why) = place_of why ∷ []
 
 -- the numbers in decimal, each after a space
 abbrev pub spaced : List ℕ → List ℕ

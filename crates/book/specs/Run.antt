@@ -19,7 +19,7 @@ is_no_room CrossedBounds = false
 is_no_room HoldsTaken = false
 is_no_room NumbersSpent = false
 is_no_room (NoRoom used reserve) = true
-is_no_room (NotALabel place) = false
+is_no_room (NotALabel why) = false
 
 -- whether an answer is refusal 6
 abbrev pub told_six : {E S : Type 0} → Answer E S → Bool

@@ -1,7 +1,7 @@
 ghost use Rattle.std.specs.Prelude.{◌≡◌, Some};
-ghost use Rattle.book.specs.Refusals.{number_of, label_refusal, printed};
+ghost use Rattle.book.specs.Refusals.{number_of, printed};
 
-use kinds::label::NotALabel;
+use kinds::not_a_label::NotALabel;
 use std::fmt;
 
 // Why a call is declined. They are looked at in this order, each where it applies.
@@ -19,8 +19,8 @@ pub enum Refusal {
     NumbersSpent,
     // The cells used and the reserve of the call are more than there are; both, the reserve at most 4,294,967,295.
     NoRoom { used: u32, reserve: u32 },
-    // Bytes are no label: 8 where there are not eight, else the place of the first wrong byte, counted from 0.
-    NotALabel { place: u8 },
+    // Bytes are no label.
+    NotALabel(NotALabel),
 }
 
 impl Refusal {
@@ -34,21 +34,19 @@ impl Refusal {
             Refusal::HoldsTaken => 4,
             Refusal::NumbersSpent => 5,
             Refusal::NoRoom { .. } => 6,
-            Refusal::NotALabel { .. } => 7,
+            Refusal::NotALabel(_) => 7,
         }
     }
 }
 
 // What the label reader refuses is refusal 7.
 impl From<NotALabel> for Refusal {
-    ghost from_gives = { λ refused r. r ≡ label_refusal refused.place };
+    ghost use Rattle.book.specs.declared.refusal.Refusal.TheVariants.{NotALabel as LabelRefused};
 
-    fn from(refused: NotALabel) -> Refusal
-        ensures { result ≡ label_refusal refused.place }
-    {
-        Refusal::NotALabel {
-            place: refused.place,
-        }
+    ghost from_gives = { λ why r. r ≡ LabelRefused why };
+
+    fn from(why: NotALabel) -> Refusal {
+        Refusal::NotALabel(why)
     }
 }
 
@@ -61,7 +59,10 @@ impl fmt::Display for Refusal {
         match self {
             Refusal::NotHeld { number } => write!(f, "{refusal} {number}"),
             Refusal::NoRoom { used, reserve } => write!(f, "{refusal} {used} {reserve}"),
-            Refusal::NotALabel { place } => write!(f, "{refusal} {place}"),
+            Refusal::NotALabel(refused) => {
+                let place = refused.place();
+                write!(f, "{refusal} {place}")
+            }
             Refusal::BadTables
             | Refusal::CrossedBounds
             | Refusal::HoldsTaken

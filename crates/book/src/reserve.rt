@@ -1,5 +1,5 @@
 // How many cells a making call asks for. A call is accepted only where that many fit beside the cells in use.
-ghost use Rattle.std.specs.Prelude.{◌≡◌, ◌*◌, ◌^◌, ◌<◌, ◌≤◌};
+ghost use Rattle.std.specs.Prelude.{◌≡◌, ◌+◌, ◌*◌, ◌^◌, ◌<◌, ◌≤◌};
 ghost use Rattle.book.specs.Numbers.{digits, edit_reserve, window_reserve, pair_reserve, sift_reserve, build_reserve, capped};
 
 // The binary digits of a number: 0 has none, 7 has 3 and 8 has 4.
@@ -16,14 +16,14 @@ pub fn binary_digits(n: usize) -> u32
 pub fn edit_reserve(entries: usize) -> u32
     ensures { result ≡ edit_reserve entries }
 {
-    12 * (binary_digits(entries) + 1)
+    per_digit::<12>(entries)
 }
 
 // For window.
 pub fn window_reserve(entries: usize) -> u32
     ensures { result ≡ window_reserve entries }
 {
-    64 * (binary_digits(entries) + 1)
+    per_digit::<64>(entries)
 }
 
 // For merge, common and without.
@@ -51,4 +51,12 @@ fn cap(n: usize) -> u32
     ensures { result ≡ capped n }
 {
     n.min(u32::MAX as usize) as u32
+}
+
+// So many cells for each binary digit of a number, and once more.
+fn per_digit<const CELLS: u32>(entries: usize) -> u32
+    requires { CELLS ≤ 64 }
+    ensures { result ≡ CELLS * (digits entries + 1) }
+{
+    CELLS * (binary_digits(entries) + 1)
 }

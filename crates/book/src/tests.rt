@@ -4,6 +4,7 @@ use crate::reserve::{
 };
 use crate::sorted::{SortedVec, sift, total};
 use kinds::label::Label;
+use kinds::not_a_label::NotALabel;
 use kinds::rows::slot::SlotRow;
 use std::test::Fail;
 
@@ -51,7 +52,7 @@ fn refusals_have_their_numbers(rt: HostRuntime) {
             used: 0,
             reserve: 68,
         },
-        Refusal::NotALabel { place: 5 },
+        Refusal::NotALabel(NotALabel::WrongByte { place: 5 }),
     ];
     for (before, refusal) in refusals.iter().enumerate() {
         assert_eq!(rt; refusal.number() as usize, before.saturating_add(1));
@@ -71,7 +72,7 @@ fn refusals_are_printed_with_what_they_carry(rt: HostRuntime) -> Result<(), Fail
 }
 
 fn label_number(bytes: &[u8]) -> Result<u64, Refusal> {
-    Ok(Label::read(bytes)?.number())
+    Ok(Label::try_from(bytes)?.into())
 }
 
 #[test]
@@ -79,11 +80,11 @@ fn the_label_reader_gives_refusal_7(rt: HostRuntime) {
     assert_eq!(rt; label_number(b"A00001L8"), Ok(0x4130_3030_3031_4C38));
     assert_eq!(rt;
         label_number(b"A0000-L8"),
-        Err(Refusal::NotALabel { place: 5 })
+        Err(Refusal::NotALabel(NotALabel::WrongByte { place: 5 }))
     );
     assert_eq!(rt;
         label_number(b"A00001L"),
-        Err(Refusal::NotALabel { place: 8 })
+        Err(Refusal::NotALabel(NotALabel::WrongLength))
     );
 }
 
