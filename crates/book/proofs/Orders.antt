@@ -2,12 +2,12 @@
 use Rattle.std.proofs.Common.{◌≡◌, ℕ, zero, suc, true, false, List, [], ◌∷◌, Some, None, refl, inl, inr, arith}
 use Rattle.std.proofs.lemmas.Bool.{cases_Bool}
 use Rattle.kinds.specs.Kinds.{Ops, Laws}
-use Rattle.book.specs.Lists.{All, position, same_key, has_key, find}
-use Rattle.book.proofs.Kept.{all_map}
+use Rattle.book.specs.Lists.{Every, position, same_key, has_key, find}
+use Rattle.std.proofs.ByRecursion.{All-weaker}
 
 -- every key of xs is above k
 abbrev pub Above : {E K S L : Type 0} → Ops E K S L → K → List E → Type 0
-Above o k xs = All (λ x. o.less k (o.key x) ≡ true) xs
+Above o k xs = Every (λ x. o.less k (o.key x) ≡ true) xs
 
 module _ {E K S L : Type 0} (o : Ops E K S L) (laws : Laws o) where
   pub not_back : (a b : K) → o.less a b ≡ true → o.less b a ≡ false
@@ -24,7 +24,7 @@ module _ {E K S L : Type 0} (o : Ops E K S L) (laws : Laws o) where
   less_through a b c l n = let t = laws.order.transitive a b c l in let s = laws.order.total b c in grind arith
 
   pub all_above : (a b : K) (xs : List E) → o.less a b ≡ true → Above o b xs → Above o a xs
-  all_above a b xs h = all_map (λ x. o.less b (o.key x) ≡ true) (λ x. o.less a (o.key x) ≡ true) (λ x. laws.order.transitive a b (o.key x) h) xs
+  all_above a b xs h = All-weaker (λ x. o.less b (o.key x) ≡ true) (λ x. o.less a (o.key x) ≡ true) (λ x. laws.order.transitive a b (o.key x) h) xs
 
   -- what find answers stands in the list, and has the key
   pub found_at : (k : K) (x : E) (xs : List E) → find o k xs ≡ Some x → (i : ℕ) × (position i xs ≡ Some x) × (o.key x ≡ k)

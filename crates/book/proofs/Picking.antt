@@ -3,14 +3,14 @@ use Rattle.std.proofs.Common.{◌≡◌, zero, suc, Bool, false, List, [], ◌�
 use Rattle.std.proofs.lemmas.Bool.{cases_Bool, both_ways}
 use Rattle.kinds.specs.Kinds.{Ops, Laws}
 use Rattle.std.specs.List.{filter}
-use Rattle.book.specs.Lists.{All, Rising, passing, find, sift, Picked}
+use Rattle.book.specs.Lists.{Every, Rising, passing, find, sift, Picked}
 use Rattle.book.specs.Keyed.{Picks}
 use Rattle.book.proofs.Kept.{kept_none, all_at}
 use Rattle.book.proofs.Finding.{find-passing}
 use Rattle.book.proofs.Places.{ranked_there}
 
 -- a test that keeps nothing fails at every element
-none_kept : {E : Type 0} (p : E → Bool) (xs : List E) → filter p xs ≡ [] → All (λ x. p x ≡ false) xs
+none_kept : {E : Type 0} (p : E → Bool) (xs : List E) → filter p xs ≡ [] → Every (λ x. p x ≡ false) xs
 none_kept p [] e = tt
 none_kept p (x ∷ xs) e = (grind arith, none_kept p xs (grind arith))
 

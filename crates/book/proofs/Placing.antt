@@ -5,18 +5,14 @@ use Rattle.std.specs.List.{insert}
 use Rattle.std.specs.Ordering.{is_lt, ordering_index, ordering_reverse}
 use Rattle.std.specs.Cmp.{IsTotalOrder}
 use Rattle.std.specs.List.Sorted.{IsNonDecreasingBy, IsBinarySearchResult, IsSearchInRange}
+use Rattle.std.proofs.ByRecursion.{All-get_or}
 use Rattle.kinds.specs.Kinds.{Ops, Laws}
 use Rattle.std.specs.List.{filter}
-use Rattle.book.specs.Lists.{All, Rising, find, rank, put}
+use Rattle.book.specs.Lists.{Rising, find, rank, put}
 use Rattle.book.specs.Sorted.{StandsAt, GoesTo}
 use Rattle.book.proofs.Kept.{kept_none}
 use Rattle.book.proofs.Orders.{Above, not_back, all_above, find_above}
 use Rattle.book.proofs.Rising.{rising_put}
-
-all_get_or : {E : Type 0} (P : E → Type 0) (xs : List E) → All P xs → (i : ℕ) (d : E) → i < length xs → P (get_or xs i d)
-all_get_or P [] a i d h = absurd (omega arith)
-all_get_or P (x ∷ xs) a zero d h = a.0
-all_get_or P (x ∷ xs) a (suc i) d h = all_get_or P xs a.1 i d (omega arith)
 
 module _ {E K S L : Type 0} (o : Ops E K S L) where
   -- every key before a place is less than k, and none from it on is
@@ -28,7 +24,7 @@ module _ {E K S L : Type 0} (o : Ops E K S L) where
   rises_at : (xs : List E) → Rising o xs → (i j : ℕ) (d e : E) → i < j → j < length xs → o.less (o.key (get_or xs i d)) (o.key (get_or xs j e)) ≡ true
   rises_at [] r i j d e h l = absurd (omega arith)
   rises_at (x ∷ xs) r i zero d e h l = absurd (omega arith)
-  rises_at (x ∷ xs) r zero (suc j) d e h l = all_get_or (λ y. o.less (o.key x) (o.key y) ≡ true) xs r.0 j e (omega arith)
+  rises_at (x ∷ xs) r zero (suc j) d e h l = All-get_or (λ y. o.less (o.key x) (o.key y) ≡ true) xs j e (omega arith) r.0
   rises_at (x ∷ xs) r (suc i) (suc j) d e h l = rises_at xs r.1 i j d e (omega arith) (omega arith)
 
   abbrev smaller : K → E → Bool

@@ -3,9 +3,9 @@ use Rattle.std.proofs.Common.{◌≡◌, Bool, true, cond, not, List, [], ◌∷
 use Rattle.std.proofs.lemmas.Bool.{cond_both}
 use Rattle.kinds.specs.Kinds.{Ops, Laws}
 use Rattle.std.specs.List.{filter}
-use Rattle.book.specs.Lists.{All, Rising, has_key, within, passing, find, put, put_all, blended, merge, met, common}
+use Rattle.book.specs.Lists.{Every, Rising, has_key, within, passing, find, put, put_all, blended, merge, met, common}
 use Rattle.book.specs.Keyed.{KeepsRising}
-use Rattle.book.proofs.Kept.{all_kept}
+use Rattle.std.proofs.ByRecursion.{all_kept_by}
 use Rattle.book.proofs.Orders.{Above, all_above, found_at}
 
 module _ {E K S L : Type 0} (o : Ops E K S L) (laws : Laws o) where
@@ -16,9 +16,9 @@ module _ {E K S L : Type 0} (o : Ops E K S L) (laws : Laws o) where
       cond_both (o.less (o.key e) (o.key x)) (e ∷ x ∷ xs) (cond (o.less (o.key x) (o.key e)) (x ∷ put o e xs) (e ∷ xs)) P before
       (λ n. cond_both (o.less (o.key x) (o.key e)) (x ∷ put o e xs) (e ∷ xs) P after (λ m. here (laws.order.total (o.key x) (o.key e) m n)))
 
-  all_put : (P : E → Type 0) (e : E) (xs : List E) → P e → All P xs → All P (put o e xs)
+  all_put : (P : E → Type 0) (e : E) (xs : List E) → P e → Every P xs → Every P (put o e xs)
   all_put P e [] p a = (p, tt)
-  all_put P e (x ∷ xs) p a = put_ways (All P) e x xs (λ l. (p, a)) (λ l. (a.0, all_put P e xs p a.1)) (λ s. (p, a.1))
+  all_put P e (x ∷ xs) p a = put_ways (Every P) e x xs (λ l. (p, a)) (λ l. (a.0, all_put P e xs p a.1)) (λ s. (p, a.1))
 
   pub rising_put : (e : E) (xs : List E) → Rising o xs → Rising o (put o e xs)
   rising_put e [] r = (tt, tt)
@@ -36,7 +36,7 @@ module _ {E K S L : Type 0} (o : Ops E K S L) (laws : Laws o) where
   rising_kept p [] r = tt
   rising_kept p (x ∷ xs) r =
       let i = rising_kept p xs r.1 in
-      cond_both (p x) (x ∷ filter p xs) (filter p xs) (Rising o) (λ e. (all_kept (λ y. o.less (o.key x) (o.key y) ≡ true) p xs r.0, i)) (λ e. i)
+      cond_both (p x) (x ∷ filter p xs) (filter p xs) (Rising o) (λ e. (all_kept_by p (λ y. o.less (o.key x) (o.key y) ≡ true) xs r.0, i)) (λ e. i)
 
   rising_merge : (xs ys : List E) → Rising o xs → Rising o (merge o xs ys)
   rising_merge xs [] r = r
@@ -54,11 +54,11 @@ module _ {E K S L : Type 0} (o : Ops E K S L) (laws : Laws o) where
       go None e = left_out
       go (Some y) e = taken_in (o.blend x y) (met_key x y ys e)
 
-  all_common : (P : K → Type 0) (xs ys : List E) → All (λ x. P (o.key x)) xs → All (λ x. P (o.key x)) (common o xs ys)
+  all_common : (P : K → Type 0) (xs ys : List E) → Every (λ x. P (o.key x)) xs → Every (λ x. P (o.key x)) (common o xs ys)
   all_common P [] ys a = tt
   all_common P (x ∷ xs) ys a =
       let i = all_common P xs ys a.1 in
-      met_ways (All (λ x. P (o.key x))) x ys (common o xs ys) i (λ e s. (subst P (sym s) a.0, i))
+      met_ways (Every (λ x. P (o.key x))) x ys (common o xs ys) i (λ e s. (subst P (sym s) a.0, i))
 
   rising_common : (xs ys : List E) → Rising o xs → Rising o (common o xs ys)
   rising_common [] ys r = tt

@@ -2,7 +2,7 @@
 use Rattle.std.specs.Prelude.{◌≡◌, ℕ, ◌+◌, Bool, true, false, cond, ◌&&◌, List, [], ◌∷◌, ◌++◌, length, is_some, Some, None, Option, nat_lt}
 use Rattle.std.specs.Option.{option_or}
 use Rattle.kinds.specs.Kinds.{Ops}
-use Rattle.book.specs.Lists.{All, position, page, Rising, same_key, has_key, within, passing, find, rank, put, build, remove, window, sift, without, merge, common, total, sum, equal, Picked}
+use Rattle.book.specs.Lists.{Every, position, page, Rising, same_key, has_key, within, passing, find, rank, put, build, remove, window, sift, without, merge, common, total, sum, equal, Picked}
 
 -- x, unless it fails the test
 abbrev pub if_so : {E : Type 0} → (E → Bool) → Option E → Option E
@@ -60,7 +60,7 @@ module _ {E K S L : Type 0} (o : Ops E K S L) where
 
   -- no key of xs stands between a and b
   abbrev pub NoneBetween : K → K → List E → Type 0
-  NoneBetween a b xs = All (λ x. (o.less a (o.key x) && o.less (o.key x) b) ≡ false) xs
+  NoneBetween a b xs = Every (λ x. (o.less a (o.key x) && o.less (o.key x) b) ≡ false) xs
 
   pub record Sums : Type 0 where
     pub of_window : (low high : K) (xs : List E) → sum o low high xs ≡ total o (window o low high xs)

@@ -3,7 +3,7 @@ use Rattle.std.specs.Prelude.{slice_get, ◌≡◌, ℕ, Bool, true, false, cond
 use Rattle.std.specs.List.{filter, fold}
 use Rattle.kinds.specs.Kinds.{Ops}
 -- every element has P
-pub use Rattle.std.specs.List.{AllByRecursion as All}
+pub use Rattle.std.specs.List.{AllByRecursion as Every}
 
 -- the entry at a place, counted from 0
 abbrev pub position : {E : Type 0} → ℕ → List E → Option E
@@ -17,7 +17,7 @@ module _ {E K S L : Type 0} (o : Ops E K S L) where
   -- each key is less than every later one
   abbrev pub Rising : List E → Type 0
   Rising [] = Unit {0}
-  Rising (x ∷ xs) = All (λ y. o.less (o.key x) (o.key y) ≡ true) xs × Rising xs
+  Rising (x ∷ xs) = Every (λ y. o.less (o.key x) (o.key y) ≡ true) xs × Rising xs
 
   -- two keys of which neither is less, which are one key by the laws of the order
   abbrev pub same_key : K → K → Bool
@@ -108,4 +108,4 @@ module _ {E K S L : Type 0} (o : Ops E K S L) where
   -- what pick may answer: some entry that passes, or none where no entry does
   abbrev pub Picked : L → List E → Option E → Type 0
   Picked l xs (Some x) = (i : ℕ) × (position i xs ≡ Some x) × (passing l x ≡ true)
-  Picked l xs None = All (λ x. passing l x ≡ false) xs
+  Picked l xs None = Every (λ x. passing l x ≡ false) xs
