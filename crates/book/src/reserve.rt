@@ -50,7 +50,7 @@ pub fn build_reserve(entries: usize) -> u32
 fn cap(n: usize) -> u32
     ensures { result ≡ capped n }
 {
-    n.min(u32::MAX as usize) as u32
+    u32::try_from(n).unwrap_or(u32::MAX)
 }
 
 // So many cells for each binary digit of a number, and once more.
