@@ -1,7 +1,10 @@
 -- How a list falls into pieces, and its first word.
-use Rattle.std.proofs.Common.{◌≡◌, ℕ, ◌+◌, ◌<◌, Bool, true, false, cond, not, eqb, List, [], ◌∷◌, ◌++◌, length, take, drop, sym, refl, ap, ◌∙◌, inl, inr, one-add, arith}
-use Rattle.std.specs.List.{prefix_len, AllByRecursion as All}
-use Rattle.std.proofs.lemmas.Bool.{cases_Bool, cond-true, cond-false, ne_eqb, not_from_true, not_from_false}
+use Rattle.std.proofs.Common.{◌≡◌, ℕ, ◌+◌, ◌<◌, Bool, true, false, cond, not, eqb, ltb, Option, Some, None, ◌≤◌, List, [], ◌∷◌, ◌++◌, length, take, drop, sym, refl, ap, ◌∙◌, inl, inr, one-add, arith}
+use Rattle.std.specs.Option.{unwrap_or}
+use Rattle.std.proofs.lemmas.List.Sums.{prefix_len-le-length}
+use Rattle.std.specs.List.{position, position_or_len, prefix_len, AllByRecursion as All}
+use Rattle.std.proofs.Math.Bool.{not-not}
+use Rattle.std.proofs.lemmas.Bool.{cases_Bool, cases_lt, cond-true, cond-false, ne_eqb, lt-ltb, le-ltb, not_from_true, not_from_false}
 use Rattle.inventory.specs.Lines.{front_of, past_front, is_empty, longer, pieces, non_empty}
 
 -- whether a list is empty, from its length
@@ -12,6 +15,17 @@ empty_as (b ∷ bs) t h = sym (h ∙ ne_eqb (length (b ∷ bs)) 0 (λ z. omega a
 pub some_long : (bs : List ℕ) → 0 < length bs → is_empty bs ≡ false
 some_long [] h = absurd (omega arith)
 some_long (b ∷ bs) h = refl
+
+-- the place of the first element that fails, or else the length, is how many pass from the front on
+pub up_to_first : (p : ℕ → Bool) (bs : List ℕ) (found : Option ℕ) (n : ℕ) → found ≡ position (λ b. not (p b)) bs → n ≡ unwrap_or found (length bs) → n ≡ prefix_len p bs
+up_to_first p bs found n is_found is_n =
+    let first = position_or_len (λ b. not (p b)) bs in
+    let fits : first ≤ length bs = prefix_len-le-length (λ b. not (not (p b))) bs in
+    let same : first ≡ prefix_len p bs = λ i. prefix_len (λ b. not-not (p b) i) bs in
+    elim (cases_lt first (length bs)) [
+      | inl low ↦ let there = cond-true (ltb first (length bs)) (Some first) None (lt-ltb first (length bs) low) in cc
+      | inr high ↦ let none = cond-false (ltb first (length bs)) (Some first) None (le-ltb first (length bs) high) in let all : first ≡ length bs = omega arith in cc
+    ]
 
 -- a front that goes on, and one that stops at once
 module _ (p : ℕ → Bool) (b : ℕ) (bs : List ℕ) where

@@ -5,8 +5,7 @@ use Rattle.std.specs.List.{prefix_len}
 use Rattle.std.specs.Str.{all_ascii_digits}
 use Rattle.std.proofs.lemmas.List.{at_drop_more}
 use Rattle.std.proofs.lemmas.Bool.{cases_Bool, cond-true, cond-false, lt-ltb, le-ltb}
-use Rattle.inventory.specs.Lines.{classed, is_empty, read_on, number_in}
-use Rattle.inventory.specs.declared.class.Class.TheVariants.{Digit}
+use Rattle.inventory.specs.Lines.{is_empty, read_on, number_in}
 use Rattle.inventory.specs.declared.fault.Field.{Field}
 use Rattle.inventory.specs.declared.fault.Fault.{Fault}
 use Rattle.inventory.specs.declared.fault.Fault.TheVariants.{Missing, NotANumber, TooLarge}
@@ -22,27 +21,27 @@ pub read_on_more : (word : List ℕ) (i v d : ℕ) → i < length word → d ≡
 read_on_more word i v d h is inv = ap (λ x. read_on (v * 10 + x) (drop (i + 1) word)) is ∙ sym (at_drop_more (read_on v) word i 0 h) ∙ inv
 
 -- all bytes are digits exactly where the front of digits is the whole word
-pub some_other : (bs : List ℕ) → prefix_len (classed Digit) bs < length bs → all_ascii_digits bs ≡ false
+pub some_other : (bs : List ℕ) → prefix_len is_ascii_digit bs < length bs → all_ascii_digits bs ≡ false
 some_other [] h = absurd (omega arith)
 some_other (b ∷ bs) h =
     elim (cases_Bool (is_ascii_digit b)) [
       | inl a ↦
-          let on = cond-true (is_ascii_digit b) (1 + prefix_len (classed Digit) bs) 0 a in
+          let on = cond-true (is_ascii_digit b) (1 + prefix_len is_ascii_digit bs) 0 a in
           let rest = some_other bs (omega arith) in
           cc
       | inr a ↦ ap (λ (t : Bool). t && all_ascii_digits bs) a
     ]
 
-pub no_other : (bs : List ℕ) → length bs ≤ prefix_len (classed Digit) bs → all_ascii_digits bs ≡ true
+pub no_other : (bs : List ℕ) → length bs ≤ prefix_len is_ascii_digit bs → all_ascii_digits bs ≡ true
 no_other [] h = refl
 no_other (b ∷ bs) h =
     elim (cases_Bool (is_ascii_digit b)) [
       | inl a ↦
-          let on = cond-true (is_ascii_digit b) (1 + prefix_len (classed Digit) bs) 0 a in
+          let on = cond-true (is_ascii_digit b) (1 + prefix_len is_ascii_digit bs) 0 a in
           let rest = no_other bs (omega arith) in
           cc
       | inr a ↦
-          let off = cond-false (is_ascii_digit b) (1 + prefix_len (classed Digit) bs) 0 a in
+          let off = cond-false (is_ascii_digit b) (1 + prefix_len is_ascii_digit bs) 0 a in
           absurd (omega arith)
     ]
 
@@ -67,13 +66,13 @@ module _ (field : Field) (most : ℕ) (word : List ℕ) where
   read_number there all fits = measured there all ∙ cond-false (ltb most (read_on 0 word)) (Err (TooLarge field)) (Ok (read_on 0 word)) (le-ltb most (read_on 0 word) fits)
 
   module _ (there : false ≡ eqb (length word) 0) where
-    pub not_a_number : prefix_len (classed Digit) word < length word → Err (NotANumber field) ≡ number_in field most word
+    pub not_a_number : prefix_len is_ascii_digit word < length word → Err (NotANumber field) ≡ number_in field most word
     unfolding digits large
     not_a_number h = sym (looked (empty_as word false there) ∙ cond-false (all_ascii_digits word) large (Err (NotANumber field)) (some_other word h))
 
-    pub too_large : length word ≤ prefix_len (classed Digit) word → most < read_on 0 word → Err (TooLarge field) ≡ number_in field most word
+    pub too_large : length word ≤ prefix_len is_ascii_digit word → most < read_on 0 word → Err (TooLarge field) ≡ number_in field most word
     unfolding large
     too_large h over = sym (measured (empty_as word false there) (no_other word h) ∙ cond-true (ltb most (read_on 0 word)) (Err (TooLarge field)) (Ok (read_on 0 word)) (lt-ltb most (read_on 0 word) over))
 
-    pub a_number : length word ≤ prefix_len (classed Digit) word → read_on 0 word ≤ most → Ok (read_on 0 word) ≡ number_in field most word
+    pub a_number : length word ≤ prefix_len is_ascii_digit word → read_on 0 word ≤ most → Ok (read_on 0 word) ≡ number_in field most word
     a_number h fits = sym (read_number (empty_as word false there) (no_other word h) fits)

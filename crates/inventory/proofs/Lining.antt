@@ -4,8 +4,7 @@ use Rattle.std.specs.List.{prefix_len}
 use Rattle.std.proofs.lemmas.List.{length-take-le, length-drop, drop-drop, nil_from_length}
 use Rattle.std.proofs.lemmas.List.Sums.{prefix_len-le-length}
 use Rattle.std.proofs.lemmas.Bool.{cond-false}
-use Rattle.inventory.specs.Lines.{front_of, past_front, classed, is_empty, ended, lines_of, Cut}
-use Rattle.inventory.specs.declared.class.Class.TheVariants.{Inline}
+use Rattle.inventory.specs.Lines.{front_of, past_front, in_line, is_empty, ended, lines_of, Cut}
 use Rattle.inventory.proofs.Cutting.{some_long, pieces-first, later}
 
 abbrev ends : ℕ → Bool
@@ -16,16 +15,16 @@ first_line : (line past : List ℕ) → 0 < length line + length past → ended 
 first_line line [] h = cond-false (is_empty line) [] (line ∷ []) (some_long line (omega arith))
 first_line line (b ∷ bs) h = let rest = pieces-first ends bs in cc
 
-module _ (text line past : List ℕ) (is_line : line ≡ front_of (classed Inline) text) (is_past : past ≡ past_front (classed Inline) text) (some : 0 < length text) where
+module _ (text line past : List ℕ) (is_line : line ≡ front_of in_line text) (is_past : past ≡ past_front in_line text) (some : 0 < length text) where
   pub cut : (rest : List ℕ) → rest ≡ drop 1 past → Cut text line rest
   cut rest is_rest =
-      let inside = prefix_len-le-length (classed Inline) text in
-      let line_long : length line ≡ prefix_len (classed Inline) text = ap length is_line ∙ length-take-le (prefix_len (classed Inline) text) text inside in
-      let past_long : length past ≡ length text - prefix_len (classed Inline) text = ap length is_past ∙ length-drop (prefix_len (classed Inline) text) text in
+      let inside = prefix_len-le-length in_line text in
+      let line_long : length line ≡ prefix_len in_line text = ap length is_line ∙ length-take-le (prefix_len in_line text) text inside in
+      let past_long : length past ≡ length text - prefix_len in_line text = ap length is_past ∙ length-drop (prefix_len in_line text) text in
       let rest_long : length rest ≡ length past - 1 = ap length is_rest ∙ length-drop 1 past in
       record {
         front = is_line;
-        after = is_rest ∙ ap (drop 1) is_past ∙ drop-drop 1 (prefix_len (classed Inline) text) text ∙ ap (λ k. drop (k + 1) text) (sym line_long);
+        after = is_rest ∙ ap (drop 1) is_past ∙ drop-drop 1 (prefix_len in_line text) text ∙ ap (λ k. drop (k + 1) text) (sym line_long);
         first = let pieced = pieces-first ends text in let lines = first_line line past (omega arith) in cc;
         shorter = omega arith;
       }

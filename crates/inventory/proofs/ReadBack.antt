@@ -12,9 +12,8 @@ use Rattle.std.proofs.lemmas.Str.{IsUtf8-from_ascii}
 use Rattle.std.proofs.lemmas.Bool.Decides.{nat_tests}
 use Rattle.kinds.specs.Labels.{allowed, all_allowed, bytes_of, is_label, written, first_wrong}
 use Rattle.kinds.specs.declared.rows.slot.SlotRow.{SlotRow}
-use Rattle.inventory.specs.Lines.{classed, front_of, is_empty, non_empty, gap, words, read_on, number_in, label_in, said, line_of}
+use Rattle.inventory.specs.Lines.{in_text, front_of, is_empty, non_empty, gap, words, read_on, number_in, label_in, said, line_of}
 use Rattle.inventory.specs.Rows.{label_text, row_text, ReadsBack}
-use Rattle.inventory.specs.declared.class.Class.TheVariants.{Content}
 use Rattle.inventory.specs.declared.fault.Field.{Field}
 use Rattle.inventory.specs.declared.fault.Field.TheVariants.{Address, Gigabytes, Day}
 use Rattle.inventory.specs.declared.fault.Fault.{Fault}
@@ -31,7 +30,7 @@ Sign b = (48 ≤ b) × (b ≤ 90)
 sign_no_gap : (b : ℕ) → Sign b → gap b ≡ false
 sign_no_gap b h = grind (arith, nat_tests)
 
-sign_content : (b : ℕ) → Sign b → classed Content b ≡ true
+sign_content : (b : ℕ) → Sign b → in_text b ≡ true
 sign_content b h = grind (arith, nat_tests)
 
 signs_from_digits : (ds : List ℕ) → all_ascii_digits ds ≡ true → All Sign ds
@@ -66,8 +65,8 @@ module _ (w : List ℕ) (some : is_empty w ≡ false) (signs : All Sign w) where
   words_cut : (bs : List ℕ) → words (w ++ 32 ∷ bs) ≡ w ∷ words bs
   words_cut bs = ap non_empty (pieces_cut gap w 32 bs cut_free refl) ∙ cond-false (is_empty w) (words bs) (w ∷ words bs) some
 
-  no_comment : All (λ b. classed Content b ≡ true) w
-  no_comment = All-weaker Sign (λ b. classed Content b ≡ true) sign_content w signs
+  no_comment : All (λ b. in_text b ≡ true) w
+  no_comment = All-weaker Sign (λ b. in_text b ≡ true) sign_content w signs
 
 -- a number
 own : IsNumeralModel (λ ds. all_ascii_digits ds ≡ true) (read_on 0)
@@ -140,15 +139,15 @@ module _ (row : SlotRow) (address : row.address < 65536) (label : row.label < 2 
       ∙ ap (λ ws. l ∷ ws) (words_cut g (decimal_there row.gigabytes (omega arith)) (decimal_signs row.gigabytes (omega arith)) d
       ∙ ap (λ ws. g ∷ ws) (words_end d (decimal_there row.day (omega arith)) (decimal_signs row.day (omega arith)))))
 
-  uncut : front_of (classed Content) (row_text row) ≡ row_text row
+  uncut : front_of in_text (row_text row) ≡ row_text row
   unfolding a l g d
   uncut =
-      let kept : ℕ → Type 0 = λ b. classed Content b ≡ true in
+      let kept : ℕ → Type 0 = λ b. in_text b ≡ true in
       let in_a = no_comment a (decimal_there row.address (omega arith)) (decimal_signs row.address (omega arith)) in
       let in_l = no_comment l (label_there row.label) (label_signs row.label) in
       let in_g = no_comment g (decimal_there row.gigabytes (omega arith)) (decimal_signs row.gigabytes (omega arith)) in
       let in_d = no_comment d (decimal_there row.day (omega arith)) (decimal_signs row.day (omega arith)) in
-      front_all (classed Content) (row_text row)
+      front_all in_text (row_text row)
       (All-append kept a (32 ∷ (l ++ 32 ∷ (g ++ 32 ∷ d))) in_a (refl, All-append kept l (32 ∷ (g ++ 32 ∷ d)) in_l (refl, All-append kept g (32 ∷ d) in_g (refl, in_d))))
 
   pub reads_back : ReadsBack row

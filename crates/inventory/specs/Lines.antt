@@ -1,13 +1,10 @@
 -- The words of a line, what a line says, and the lines of a text.
 use Rattle.std.specs.Prelude.{◌≡◌, ℕ, ◌+◌, ◌-◌, ◌*◌, ◌<◌, Bool, true, false, cond, not, ◌||◌, List, [], ◌∷◌, length, take, drop, Ok, Err, Result, ◌==◌, nat_eq, nat_lt, slice_index_or}
 use Rattle.std.specs.Result.{result_map_both}
-use Rattle.std.specs.Char.{is_ascii_digit}
 use Rattle.std.specs.List.{prefix_len}
 use Rattle.std.specs.Str.{all_ascii_digits}
 use Rattle.kinds.specs.Labels.{is_label, reading}
 use Rattle.kinds.specs.declared.rows.slot.SlotRow.{SlotRow}
-use Rattle.inventory.specs.declared.class.Class.{Class}
-use Rattle.inventory.specs.declared.class.Class.TheVariants.{Gap, Word, Digit, Content, Inline}
 use Rattle.inventory.specs.declared.fault.Field.{Field}
 use Rattle.inventory.specs.declared.fault.Field.TheVariants.{Address, Label, Gigabytes, Day}
 use Rattle.inventory.specs.declared.fault.Fault.{Fault}
@@ -49,13 +46,20 @@ and_then (Err e) f = Err e
 abbrev pub gap : ℕ → Bool
 gap b = b == 32 || b == 9 || b == 13
 
--- 35 starts a comment, 10 ends a line
-abbrev pub classed : Class → ℕ → Bool
-classed Gap b = gap b
-classed Word b = not (gap b)
-classed Digit b = is_ascii_digit b
-classed Content b = not (b == 35)
-classed Inline b = not (b == 10)
+-- what a call at a byte says is what p says of it
+abbrev pub Computes : (ℕ → Bool → Type 0) → (ℕ → Bool) → Type 0
+Computes says p = (b : ℕ) (r : Bool) → says b r → r ≡ p b
+
+abbrev pub in_word : ℕ → Bool
+in_word b = not (gap b)
+
+-- every byte but the one that starts a comment
+abbrev pub in_text : ℕ → Bool
+in_text b = not (b == 35)
+
+-- every byte but the line end
+abbrev pub in_line : ℕ → Bool
+in_line b = not (b == 10)
 
 -- the longest runs of bytes that are no gap
 abbrev pub words : List ℕ → List (List ℕ)
@@ -63,10 +67,10 @@ words bs = non_empty (pieces gap bs)
 
 -- the first word, and what stands after it
 abbrev pub first_word : List ℕ → List ℕ
-first_word bs = front_of (classed Word) (past_front (classed Gap) bs)
+first_word bs = front_of in_word (past_front gap bs)
 
 abbrev pub after_word : List ℕ → List ℕ
-after_word bs = past_front (classed Word) (past_front (classed Gap) bs)
+after_word bs = past_front in_word (past_front gap bs)
 
 -- a text, cut after its first word; the word is empty where there is none
 pub record Split (text word rest : List ℕ) : Type 0 where
@@ -111,7 +115,7 @@ line_of (w ∷ ws) = said (row_of (w ∷ ws))
 
 -- what a line says: its words, with what stands from the first # on cut off
 abbrev pub meaning : List ℕ → Line
-meaning line = line_of (words (front_of (classed Content) line))
+meaning line = line_of (words (front_of in_text line))
 
 -- a row that is read has a label
 abbrev pub Labelled : Line → Type 0
@@ -131,7 +135,7 @@ lines_of text = ended (pieces (λ b. nat_eq b 10) text)
 
 -- a text that is not empty, cut after its first line
 pub record Cut (text line rest : List ℕ) : Type 0 where
-  pub front : line ≡ front_of (classed Inline) text
+  pub front : line ≡ front_of in_line text
   pub after : rest ≡ drop (length line + 1) text
   pub first : lines_of text ≡ line ∷ lines_of rest
   pub shorter : length rest < length text

@@ -1,8 +1,8 @@
 // Inventories of a tape library: what their lines say, and the report of the cartridges that are overdue for a check.
 #![tactic(auto)]
 
-mod class;
 pub mod fault;
+mod front;
 pub mod line;
 pub mod note;
 pub mod report;

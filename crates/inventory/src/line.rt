@@ -3,8 +3,8 @@ ghost use Rattle.std.specs.Prelude.{◌≡◌, ◌≤◌, true, IfOk};
 ghost use Rattle.kinds.specs.Labels.{is_label};
 ghost use Rattle.inventory.specs.Lines.{number_in, label_in, row_of, words, meaning, Labelled};
 
-use crate::class::Class;
 use crate::fault::{Fault, Field};
+use crate::front::{front_length, split_front};
 use crate::words::split_word;
 use kinds::label::Label;
 use kinds::rows::slot::SlotRow;
@@ -26,7 +26,7 @@ pub fn number(word: &[u8], field: Field, most: u32) -> Result<u32, Fault>
     if word.is_empty() {
         return Err(Fault::Missing { field });
     }
-    if Class::Digit.front_length(word) < word.len() {
+    if front_length(word, |digit| digit.is_ascii_digit()) < word.len() {
         return Err(Fault::NotANumber { field });
     }
     let mut value: u64 = 0;
@@ -87,7 +87,7 @@ pub fn read_line(line: &[u8]) -> Line
     ensures value { result ≡ meaning line.now }
     ensures labelled { Labelled result }
 {
-    let (text, _) = Class::Content.split_front(line);
+    let (text, _) = split_front(line, |byte| byte != b'#');
     let (word, _) = split_word(text);
     if word.is_empty() {
         return Line::Blank;

@@ -2,7 +2,7 @@
 ghost use Rattle.std.specs.Prelude.{◌≡◌, [], map, IfOk, MatchOption};
 ghost use Rattle.inventory.specs.Lines.{Cut, lines_of, meaning};
 
-use crate::class::Class;
+use crate::front::split_front;
 use crate::line::{Line, read_line};
 use std::alloc::{AllocError, Global};
 
@@ -13,7 +13,7 @@ pub fn next_line(text: &[u8]) -> Option<(&[u8], &[u8])>
     if text.is_empty() {
         return None;
     }
-    let (line, rest) = Class::Inline.split_front(text);
+    let (line, rest) = split_front(text, |byte| byte != b'\n');
     match rest {
         [] => Some((line, rest)),
         [_, after @ ..] => Some((line, after)),
