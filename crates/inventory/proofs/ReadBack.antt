@@ -1,5 +1,5 @@
 -- That reading what was written for a row gives the row.
-use Rattle.std.proofs.Common.{◌≡◌, ℕ, ◌^◌, ◌<◌, ◌≤◌, true, false, List, [], ◌∷◌, ◌++◌, Ok, Err, codes, IsUtf8, decimal, Result, sym, refl, ap, ◌∙◌, inl, inr, arith, rules}
+use Rattle.std.proofs.Common.{◌≡◌, ℕ, ◌^◌, ◌<◌, ◌≤◌, true, false, List, [], ◌∷◌, ◌++◌, Some, Ok, Err, codes, IsUtf8, decimal, Result, sym, refl, ap, ◌∙◌, inl, inr, arith, rules}
 use Rattle.std.specs.Result.{result_map_both}
 use Rattle.std.specs.Char.{is_ascii_digit}
 use Rattle.std.specs.List.{AllByRecursion as All}
@@ -12,13 +12,12 @@ use Rattle.std.proofs.lemmas.Str.{IsUtf8-from_ascii}
 use Rattle.std.proofs.lemmas.Bool.Decides.{nat_tests}
 use Rattle.kinds.specs.Labels.{allowed, all_allowed, bytes_of, is_label, written, first_wrong}
 use Rattle.kinds.specs.declared.rows.slot.SlotRow.{SlotRow}
-use Rattle.inventory.specs.Lines.{in_text, front_of, is_empty, non_empty, gap, words, read_on, number_in, label_in, said, line_of}
+use Rattle.inventory.specs.Lines.{in_text, front_of, is_empty, non_empty, gap, words, read_on, number_in, label_in, line_of}
 use Rattle.inventory.specs.Rows.{label_text, row_text, ReadsBack}
 use Rattle.inventory.specs.declared.fault.Field.{Field}
 use Rattle.inventory.specs.declared.fault.Field.TheVariants.{Address, Gigabytes, Day}
 use Rattle.inventory.specs.declared.fault.Fault.{Fault}
 use Rattle.inventory.specs.declared.fault.Fault.TheVariants.{NotALabel}
-use Rattle.inventory.specs.declared.line.Line.TheVariants.{Row, Refused}
 use Rattle.inventory.proofs.Cutting.{some_long, pieces_end, pieces_cut, front_all}
 use Rattle.inventory.proofs.Decimals.{read_number}
 use Rattle.inventory.proofs.Rowing.{row_by_lem, no_label_by}
@@ -112,11 +111,11 @@ module _ (n : ℕ) where
 
 -- the four words of a line, read
 module _ (a l g d : List ℕ) (x y z : ℕ) (is_x : number_in Address 65535 a ≡ Ok x) (is_y : number_in Gigabytes 4294967295 g ≡ Ok y) (is_z : number_in Day 65535 d ≡ Ok z) where
-  four_read : (n : ℕ) → label_in l ≡ Ok n → line_of (a ∷ l ∷ g ∷ d ∷ []) ≡ Row (record { label = n; gigabytes = y; address = x; day = z })
-  four_read n is_n = ap said (row_by_lem (number_in Address 65535 a) (label_in l) (number_in Gigabytes 4294967295 g) (number_in Day 65535 d) x n y z is_x is_n is_y is_z)
+  four_read : (n : ℕ) → label_in l ≡ Ok n → line_of (a ∷ l ∷ g ∷ d ∷ []) ≡ Ok (Some (record { label = n; gigabytes = y; address = x; day = z }))
+  four_read n is_n = ap (result_map_both (λ row. Some row) (λ fault. fault)) (row_by_lem (number_in Address 65535 a) (label_in l) (number_in Gigabytes 4294967295 g) (number_in Day 65535 d) x n y z is_x is_n is_y is_z)
 
-  four_refused : (fault : Fault) → label_in l ≡ Err fault → line_of (a ∷ l ∷ g ∷ d ∷ []) ≡ Refused fault
-  four_refused fault is_fault = ap said (no_label_by (number_in Address 65535 a) (label_in l) (number_in Gigabytes 4294967295 g) (number_in Day 65535 d) true x fault is_x is_fault)
+  four_refused : (fault : Fault) → label_in l ≡ Err fault → line_of (a ∷ l ∷ g ∷ d ∷ []) ≡ Err fault
+  four_refused fault is_fault = ap (result_map_both (λ row. Some row) (λ fault. fault)) (no_label_by (number_in Address 65535 a) (label_in l) (number_in Gigabytes 4294967295 g) (number_in Day 65535 d) true x fault is_x is_fault)
 
 module _ (row : SlotRow) (address : row.address < 65536) (label : row.label < 2 ^ 64) (gigabytes : row.gigabytes < 4294967296) (day : row.day < 65536) where
   a : List ℕ
@@ -160,8 +159,8 @@ module _ (row : SlotRow) (address : row.address < 65536) (label : row.label < 2 
       elim (cases_Bool (is_label row.label)) [
         | inl is ↦
             split ∙ four_read a l g d row.address row.gigabytes row.day is_a is_g is_d row.label (label_read row.label label is)
-            ∙ sym (cond-true (is_label row.label) (Row row) (Refused (NotALabel 0)) is)
+            ∙ sym (cond-true (is_label row.label) (Ok (Some row)) (Err (NotALabel 0)) is)
         | inr none ↦
             split ∙ four_refused a l g d row.address row.gigabytes row.day is_a is_g is_d (NotALabel 0) (marks_refused row.label none)
-            ∙ sym (cond-false (is_label row.label) (Row row) (Refused (NotALabel 0)) none)
+            ∙ sym (cond-false (is_label row.label) (Ok (Some row)) (Err (NotALabel 0)) none)
       ]

@@ -1,27 +1,26 @@
 -- One line more of an inventory.
-use Rattle.std.proofs.Common.{◌≡◌, ℕ, suc, ◌<◌, ◌≤◌, List, [], ◌∷◌, ◌++◌, length, get_or, drop, sym, refl, ap, ◌∙◌, append_assoc, append-nil, drop-cons}
+use Rattle.std.proofs.Common.{◌≡◌, ℕ, suc, ◌<◌, ◌≤◌, List, [], ◌∷◌, ◌++◌, length, get_or, drop, sym, refl, ap, ◌∙◌, append_assoc, append-nil, drop-cons, Some, None, Ok, Err}
 use Rattle.std.proofs.lemmas.List.{drop_all}
 use Rattle.kinds.specs.declared.rows.slot.SlotRow.{SlotRow}
 use Rattle.kinds.specs.contracts.rows.slot.SlotRowKind.TheImpl.{ghosts}
 use Rattle.book.specs.Lists.{Rising, put_all, build}
+use Rattle.inventory.specs.Lines.{Said}
 use Rattle.inventory.specs.Reports.{rows_of, after, remarks, noted, notes_from}
-use Rattle.inventory.specs.declared.line.Line.{Line}
-use Rattle.inventory.specs.declared.line.Line.TheVariants.{Blank, Row, Refused}
 use Rattle.inventory.specs.declared.note.Note.{Note}
 
 -- the first i lines gave these rows and notes, and the others give the rest
-pub record Sofar (lines : List Line) (i : ℕ) (rows : List SlotRow) (notes : List Note) : Type 0 where
+pub record Sofar (lines : List Said) (i : ℕ) (rows : List SlotRow) (notes : List Note) : Type 0 where
   pub rises : Rising ghosts.ops rows
   pub built : put_all ghosts.ops (rows_of (drop i lines)) rows ≡ build ghosts.ops (rows_of lines)
   pub told : notes ++ notes_from (suc i) rows (drop i lines) ≡ notes_from 1 [] lines
 
-row_more : (l : Line) (ls : List Line) (rows : List SlotRow) → put_all ghosts.ops (rows_of (l ∷ ls)) rows ≡ put_all ghosts.ops (rows_of ls) (after l rows)
-row_more Blank ls rows = refl
-row_more (Row row) ls rows = refl
-row_more (Refused fault) ls rows = refl
+row_more : (l : Said) (ls : List Said) (rows : List SlotRow) → put_all ghosts.ops (rows_of (l ∷ ls)) rows ≡ put_all ghosts.ops (rows_of ls) (after l rows)
+row_more (Ok None) ls rows = refl
+row_more (Ok (Some row)) ls rows = refl
+row_more (Err fault) ls rows = refl
 
-module _ (lines : List Line) (i : ℕ) (rows : List SlotRow) (notes : List Note) (old : Sofar lines i rows notes) where
-  pub line_more : (d : Line) (rows' : List SlotRow) (notes' : List Note) → i < length lines → Rising ghosts.ops rows' →
+module _ (lines : List Said) (i : ℕ) (rows : List SlotRow) (notes : List Note) (old : Sofar lines i rows notes) where
+  pub line_more : (d : Said) (rows' : List SlotRow) (notes' : List Note) → i < length lines → Rising ghosts.ops rows' →
       rows' ≡ after (get_or lines i d) rows → notes' ≡ notes ++ noted (suc i) (remarks (get_or lines i d) rows) → Sofar lines (suc i) rows' notes'
   line_more d rows' notes' inside rises new_rows new_notes =
       let line = get_or lines i d in

@@ -1,16 +1,14 @@
 -- The words of a line, what a line says, and the lines of a text.
-use Rattle.std.specs.Prelude.{◌≡◌, ℕ, ◌+◌, ◌-◌, ◌*◌, ◌<◌, Bool, true, false, cond, not, ◌||◌, List, [], ◌∷◌, length, take, drop, Ok, Err, Result, ◌==◌, nat_eq, nat_lt, slice_index_or}
+use Rattle.std.specs.Prelude.{◌≡◌, ℕ, ◌+◌, ◌-◌, ◌*◌, ◌<◌, Bool, true, false, cond, not, ◌||◌, List, [], ◌∷◌, length, take, drop, Option, Some, None, Ok, Err, Result, ◌==◌, nat_eq, nat_lt, slice_index_or}
 use Rattle.std.specs.Result.{result_map_both}
 use Rattle.std.specs.List.{prefix_len}
 use Rattle.std.specs.Str.{all_ascii_digits}
-use Rattle.kinds.specs.Labels.{is_label, reading}
+use Rattle.kinds.specs.Labels.{reading}
 use Rattle.kinds.specs.declared.rows.slot.SlotRow.{SlotRow}
 use Rattle.inventory.specs.declared.fault.Field.{Field}
 use Rattle.inventory.specs.declared.fault.Field.TheVariants.{Address, Label, Gigabytes, Day}
 use Rattle.inventory.specs.declared.fault.Fault.{Fault}
 use Rattle.inventory.specs.declared.fault.Fault.TheVariants.{Missing, NotANumber, TooLarge, NotALabel, ExtraWord}
-use Rattle.inventory.specs.declared.line.Line.{Line}
-use Rattle.inventory.specs.declared.line.Line.TheVariants.{Blank, Row, Refused}
 
 -- the longest front of elements that pass, and what stands after it
 abbrev pub front_of : (ℕ → Bool) → List ℕ → List ℕ
@@ -105,23 +103,17 @@ row_of ws =
     row_by (number_in Address 65535 (slice_index_or ws 0 [])) (label_in (slice_index_or ws 1 [])) (number_in Gigabytes 4294967295 (slice_index_or ws 2 [])) (number_in Day 65535 (slice_index_or ws 3 []))
     (is_empty (slice_index_or ws 4 []))
 
-abbrev pub said : Result SlotRow Fault → Line
-said (Ok row) = Row row
-said (Err fault) = Refused fault
+-- what a line says: a row, nothing where it has no word, or why it is refused
+abbrev pub Said : Type 0
+Said = Result (Option SlotRow) Fault
 
-abbrev pub line_of : List (List ℕ) → Line
-line_of [] = Blank
-line_of (w ∷ ws) = said (row_of (w ∷ ws))
+abbrev pub line_of : List (List ℕ) → Said
+line_of [] = Ok None
+line_of (w ∷ ws) = result_map_both (λ row. Some row) (λ fault. fault) (row_of (w ∷ ws))
 
 -- what a line says: its words, with what stands from the first # on cut off
-abbrev pub meaning : List ℕ → Line
+abbrev pub meaning : List ℕ → Said
 meaning line = line_of (words (front_of in_text line))
-
--- a row that is read has a label
-abbrev pub Labelled : Line → Type 0
-Labelled Blank = Unit {0}
-Labelled (Row row) = is_label row.label ≡ true
-Labelled (Refused fault) = Unit {0}
 
 -- no piece after the last line end where nothing stands there
 abbrev pub ended : List (List ℕ) → List (List ℕ)

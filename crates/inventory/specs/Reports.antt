@@ -1,44 +1,42 @@
 -- What the overdue report tells of an inventory.
-use Rattle.std.specs.Prelude.{ℕ, suc, cond, List, [], ◌∷◌, ◌++◌, map, is_some}
+use Rattle.std.specs.Prelude.{ℕ, suc, cond, List, [], ◌∷◌, ◌++◌, map, is_some, Some, None, Ok, Err}
 use Rattle.kinds.specs.declared.rows.slot.SlotRow.{SlotRow}
 use Rattle.kinds.specs.contracts.rows.slot.SlotRowKind.TheImpl.{ghosts}
 use Rattle.book.specs.Lists.{find, put, build}
-use Rattle.inventory.specs.Lines.{lines_of, meaning}
-use Rattle.inventory.specs.declared.line.Line.{Line}
-use Rattle.inventory.specs.declared.line.Line.TheVariants.{Blank, Row, Refused}
+use Rattle.inventory.specs.Lines.{Said, lines_of, meaning}
 use Rattle.inventory.specs.declared.note.Note.{Note}
 use Rattle.inventory.specs.declared.note.Remark.{Remark}
 use Rattle.inventory.specs.declared.note.Remark.TheVariants.{Faulty, Repeated}
 
 -- the rows among lines, in their order
-abbrev pub rows_of : List Line → List SlotRow
+abbrev pub rows_of : List Said → List SlotRow
 rows_of [] = []
-rows_of (Blank ∷ ls) = rows_of ls
-rows_of (Row row ∷ ls) = row ∷ rows_of ls
-rows_of (Refused fault ∷ ls) = rows_of ls
+rows_of (Ok None ∷ ls) = rows_of ls
+rows_of (Ok (Some row) ∷ ls) = row ∷ rows_of ls
+rows_of (Err fault ∷ ls) = rows_of ls
 
 -- the inventory after one more line
-abbrev pub after : Line → List SlotRow → List SlotRow
-after Blank rows = rows
-after (Row row) rows = put ghosts.ops row rows
-after (Refused fault) rows = rows
+abbrev pub after : Said → List SlotRow → List SlotRow
+after (Ok None) rows = rows
+after (Ok (Some row)) rows = put ghosts.ops row rows
+after (Err fault) rows = rows
 
 -- what is to be said of a line where the lines before it gave these rows
-abbrev pub remarks : Line → List SlotRow → List Remark
-remarks Blank rows = []
-remarks (Row row) rows = cond (is_some (find ghosts.ops row.address rows)) (Repeated row.address ∷ []) []
-remarks (Refused fault) rows = Faulty fault ∷ []
+abbrev pub remarks : Said → List SlotRow → List Remark
+remarks (Ok None) rows = []
+remarks (Ok (Some row)) rows = cond (is_some (find ghosts.ops row.address rows)) (Repeated row.address ∷ []) []
+remarks (Err fault) rows = Faulty fault ∷ []
 
 abbrev pub noted : ℕ → List Remark → List Note
 noted line rs = map (λ r. record { line = line; remark = r }) rs
 
 -- what is to be said of lines, each with its number, the first line's being i
-abbrev pub notes_from : ℕ → List SlotRow → List Line → List Note
+abbrev pub notes_from : ℕ → List SlotRow → List Said → List Note
 notes_from i rows [] = []
 notes_from i rows (l ∷ ls) = noted i (remarks l rows) ++ notes_from (suc i) (after l rows) ls
 
 -- what every line of a text says
-abbrev pub saying : List ℕ → List Line
+abbrev pub saying : List ℕ → List Said
 saying text = map meaning (lines_of text)
 
 -- the cartridges of a text in the order of their addresses; of two lines with one address the later stands

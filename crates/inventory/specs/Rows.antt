@@ -1,10 +1,9 @@
 -- How a row is written as a line.
-use Rattle.std.specs.Prelude.{◌≡◌, ℕ, cond, List, ◌++◌, codes, decimal}
+use Rattle.std.specs.Prelude.{◌≡◌, ℕ, cond, List, ◌++◌, Some, Ok, Err, codes, decimal}
 use Rattle.kinds.specs.Labels.{bytes_of, is_label}
 use Rattle.kinds.specs.declared.rows.slot.SlotRow.{SlotRow}
 use Rattle.inventory.specs.Lines.{meaning}
 use Rattle.inventory.specs.declared.fault.Fault.TheVariants.{NotALabel}
-use Rattle.inventory.specs.declared.line.Line.TheVariants.{Row, Refused}
 
 -- the eight bytes of a label; a number that is no label has none, and eight question marks stand for them
 abbrev pub label_text : ℕ → List ℕ
@@ -16,4 +15,4 @@ row_text row =
 
 -- reading what was written for a row gives the row, and a refusal where its number is no label
 abbrev pub ReadsBack : SlotRow → Type 0
-ReadsBack row = meaning (row_text row) ≡ cond (is_label row.label) (Row row) (Refused (NotALabel 0))
+ReadsBack row = meaning (row_text row) ≡ cond (is_label row.label) (Ok (Some row)) (Err (NotALabel 0))

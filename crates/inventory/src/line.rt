@@ -1,7 +1,7 @@
 // What one line of an inventory says.
-ghost use Rattle.std.specs.Prelude.{◌≡◌, ◌≤◌, true, IfOk};
+ghost use Rattle.std.specs.Prelude.{◌≡◌, ◌≤◌, true, IfOk, IfSome};
 ghost use Rattle.kinds.specs.Labels.{is_label};
-ghost use Rattle.inventory.specs.Lines.{number_in, label_in, row_of, words, meaning, Labelled};
+ghost use Rattle.inventory.specs.Lines.{number_in, label_in, row_of, words, meaning};
 
 use crate::fault::{Fault, Field};
 use crate::front::{front_length, split_front};
@@ -9,13 +9,8 @@ use crate::words::split_word;
 use kinds::label::Label;
 use kinds::rows::slot::SlotRow;
 
-#[derive(Clone, Copy)]
-pub enum Line {
-    // No word: the line is empty, or a comment alone.
-    Blank,
-    Row(SlotRow),
-    Refused(Fault),
-}
+// What a line says: a row, or nothing where it is empty or a comment alone.
+pub type Line = Result<Option<SlotRow>, Fault>;
 
 // A word as the number of a field; an empty one stands for no word.
 // The sum stops once it passes `most`, so it fits however long the word is.
@@ -85,15 +80,12 @@ pub fn read_row(text: &[u8]) -> Result<SlotRow, Fault>
 // What a line says, its comment cut off.
 pub fn read_line(line: &[u8]) -> Line
     ensures value { result ≡ meaning line.now }
-    ensures labelled { Labelled result }
+    ensures labelled { IfOk result (λ found. IfSome found (λ row. is_label row.label ≡ true)) }
 {
     let (text, _) = split_front(line, |byte| byte != b'#');
     let (word, _) = split_word(text);
     if word.is_empty() {
-        return Line::Blank;
+        return Ok(None);
     }
-    match read_row(text) {
-        Ok(row) => Line::Row(row),
-        Err(fault) => Line::Refused(fault),
-    }
+    read_row(text).map(Some)
 }

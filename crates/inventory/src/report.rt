@@ -30,8 +30,8 @@ impl Stock {
         ensures notes { OnOk result (self.new.notes.items ≡ self.old.notes.items ++ noted number (remarks line self.old.rows.entries.items)) }
     {
         match line {
-            Line::Blank => {}
-            Line::Row(row) => {
+            Ok(None) => {}
+            Ok(Some(row)) => {
                 if self.rows.put(row)? {
                     let remark = Remark::Repeated {
                         address: row.address,
@@ -42,7 +42,7 @@ impl Stock {
                     })?;
                 }
             }
-            Line::Refused(fault) => {
+            Err(fault) => {
                 self.notes.push(Note {
                     line: number,
                     remark: Remark::Faulty(fault),
