@@ -2,7 +2,7 @@
 use Rattle.std.proofs.Common.{◌≡◌, ℕ, ◌^◌, ◌<◌, ◌≤◌, true, false, List, [], ◌∷◌, ◌++◌, Some, Ok, Err, codes, IsUtf8, decimal, Result, sym, refl, ap, ◌∙◌, inl, inr, arith, rules}
 use Rattle.std.specs.Result.{result_map_both}
 use Rattle.std.specs.Char.{is_ascii_digit}
-use Rattle.std.specs.List.{AllByRecursion as All}
+use Rattle.std.specs.List.{list_all, AllByRecursion as All}
 use Rattle.std.specs.Str.{all_ascii_digits}
 use Rattle.std.proofs.ByRecursion.{IsAscii-from_all, All-append, All-weaker}
 use Rattle.std.proofs.lemmas.Fmt.{digits_decimal, digits_value-decimal, decimal_nonempty}
@@ -10,7 +10,9 @@ use Rattle.std.proofs.lemmas.Str.Parse.{IsNumeralModel, numerals_by_fold, tells_
 use Rattle.std.proofs.lemmas.Bool.{cases_Bool, and_parts, cond-true, cond-false, cond_both}
 use Rattle.std.proofs.lemmas.Str.{IsUtf8-from_ascii}
 use Rattle.std.proofs.lemmas.Bool.Decides.{nat_tests}
-use Rattle.kinds.specs.Labels.{allowed, all_allowed, bytes_of, is_label, written, first_wrong}
+use Rattle.kinds.specs.declared.not_a_label.NotALabel.TheVariants.{WrongByte}
+use Rattle.kinds.specs.Labels.{allowed, bytes_of, is_label, reading}
+use Rattle.kinds.proofs.Reading.{reads_back as number_reads_back}
 use Rattle.kinds.specs.declared.rows.slot.SlotRow.{SlotRow}
 use Rattle.inventory.specs.Lines.{in_text, front_of, is_empty, non_empty, gap, words, read_on, number_in, label_in, line_of}
 use Rattle.inventory.specs.Rows.{label_text, row_text, ReadsBack}
@@ -41,10 +43,10 @@ signs_from_digits (d ∷ ds) h =
     let high : d ≤ 90 = grind (arith, nat_tests) in
     ((low, high), signs_from_digits ds both.1)
 
-signs_from_allowed : (bs : List ℕ) → all_allowed bs ≡ true → All Sign bs
+signs_from_allowed : (bs : List ℕ) → list_all allowed bs ≡ true → All Sign bs
 signs_from_allowed [] h = tt
 signs_from_allowed (b ∷ bs) h =
-    let both = and_parts (allowed b) (all_allowed bs) h in
+    let both = and_parts (allowed b) (list_all allowed bs) h in
     let here : allowed b ≡ true = both.0 in
     let low : 48 ≤ b = grind (arith, nat_tests) in
     let high : b ≤ 90 = grind (arith, nat_tests) in
@@ -101,12 +103,9 @@ module _ (n : ℕ) where
   label_read : n < 2 ^ 64 → is_label n ≡ true → label_in (label_text n) ≡ Ok n
   label_read small is =
       let text : label_text n ≡ bytes_of n = cond-true (is_label n) (bytes_of n) (codes "????????") is in
-      let number : written 0 (bytes_of n) ≡ n = omega arith in
-      ap label_in text
-      ∙ ap (result_map_both (λ k. k) (λ place. NotALabel place)) (cond-true {A = Result ℕ ℕ} (is_label n) (Ok (written 0 (bytes_of n))) (Err (first_wrong 0 (bytes_of n))) is)
-      ∙ ap (λ k. Ok k) number
+      ap label_in text ∙ ap (result_map_both (λ k. k) (λ why. NotALabel why)) (number_reads_back n small is)
 
-  marks_refused : is_label n ≡ false → label_in (label_text n) ≡ Err (NotALabel 0)
+  marks_refused : is_label n ≡ false → label_in (label_text n) ≡ Err (NotALabel (WrongByte 0))
   marks_refused no_label = ap label_in (cond-false (is_label n) (bytes_of n) (codes "????????") no_label)
 
 -- the four words of a line, read
@@ -159,8 +158,8 @@ module _ (row : SlotRow) (address : row.address < 65536) (label : row.label < 2 
       elim (cases_Bool (is_label row.label)) [
         | inl is ↦
             split ∙ four_read a l g d row.address row.gigabytes row.day is_a is_g is_d row.label (label_read row.label label is)
-            ∙ sym (cond-true (is_label row.label) (Ok (Some row)) (Err (NotALabel 0)) is)
+            ∙ sym (cond-true (is_label row.label) (Ok (Some row)) (Err (NotALabel (WrongByte 0))) is)
         | inr none ↦
-            split ∙ four_refused a l g d row.address row.gigabytes row.day is_a is_g is_d (NotALabel 0) (marks_refused row.label none)
-            ∙ sym (cond-false (is_label row.label) (Ok (Some row)) (Err (NotALabel 0)) none)
+            split ∙ four_refused a l g d row.address row.gigabytes row.day is_a is_g is_d (NotALabel (WrongByte 0)) (marks_refused row.label none)
+            ∙ sym (cond-false (is_label row.label) (Ok (Some row)) (Err (NotALabel (WrongByte 0))) none)
       ]

@@ -3,14 +3,13 @@ use Rattle.std.proofs.Common.{◌≡◌, ℕ, suc, ◌<◌, ◌≤◌, List, [],
 use Rattle.std.proofs.lemmas.List.{drop_all}
 use Rattle.kinds.specs.declared.rows.slot.SlotRow.{SlotRow}
 use Rattle.kinds.specs.contracts.rows.slot.SlotRowKind.TheImpl.{ghosts}
-use Rattle.book.specs.Lists.{Rising, put_all, build}
+use Rattle.book.specs.Lists.{put_all, build}
 use Rattle.inventory.specs.Lines.{Said}
 use Rattle.inventory.specs.Reports.{rows_of, after, remarks, noted, notes_from}
 use Rattle.inventory.specs.declared.note.Note.{Note}
 
 -- the first i lines gave these rows and notes, and the others give the rest
 pub record Sofar (lines : List Said) (i : ℕ) (rows : List SlotRow) (notes : List Note) : Type 0 where
-  pub rises : Rising ghosts.ops rows
   pub built : put_all ghosts.ops (rows_of (drop i lines)) rows ≡ build ghosts.ops (rows_of lines)
   pub told : notes ++ notes_from (suc i) rows (drop i lines) ≡ notes_from 1 [] lines
 
@@ -20,14 +19,13 @@ row_more (Ok (Some row)) ls rows = refl
 row_more (Err fault) ls rows = refl
 
 module _ (lines : List Said) (i : ℕ) (rows : List SlotRow) (notes : List Note) (old : Sofar lines i rows notes) where
-  pub line_more : (d : Said) (rows' : List SlotRow) (notes' : List Note) → i < length lines → Rising ghosts.ops rows' →
+  pub line_more : (d : Said) (rows' : List SlotRow) (notes' : List Note) → i < length lines →
       rows' ≡ after (get_or lines i d) rows → notes' ≡ notes ++ noted (suc i) (remarks (get_or lines i d) rows) → Sofar lines (suc i) rows' notes'
-  line_more d rows' notes' inside rises new_rows new_notes =
+  line_more d rows' notes' inside new_rows new_notes =
       let line = get_or lines i d in
       let rest = drop (suc i) lines in
       let next = drop-cons lines i d inside in
       record {
-        rises = rises;
         built = ap (put_all ghosts.ops (rows_of rest)) new_rows ∙ sym (row_more line rest rows) ∙ ap (λ ls. put_all ghosts.ops (rows_of ls) rows) (sym next) ∙ old.built;
         told =
             (λ j. new_notes j ++ notes_from (suc (suc i)) (new_rows j) rest) ∙ append_assoc notes (noted (suc i) (remarks line rows)) (notes_from (suc (suc i)) (after line rows) rest)

@@ -87,9 +87,9 @@ number_in field most word =
     cond (is_empty word) (Err (Missing field))
     (cond (all_ascii_digits word) (cond (nat_lt most (read_on 0 word)) (Err (TooLarge field)) (Ok (read_on 0 word))) (Err (NotANumber field)))
 
--- a word as the number of a label: a wrong label has the place that reading refuses
+-- a word as the number of a label: a wrong one is refused as reading refuses it
 abbrev pub label_in : List ℕ → Result ℕ Fault
-label_in word = cond (is_empty word) (Err (Missing Label)) (result_map_both (λ n. n) (λ place. NotALabel place) (reading word))
+label_in word = cond (is_empty word) (Err (Missing Label)) (result_map_both (λ n. n) (λ why. NotALabel why) (reading word))
 
 -- the row that four answers make where no word is left, or the first fault from the left
 abbrev pub row_by : Result ℕ Fault → Result ℕ Fault → Result ℕ Fault → Result ℕ Fault → Bool → Result SlotRow Fault

@@ -2,6 +2,7 @@
 use Rattle.std.specs.Prelude.{◌≡◌, ℕ, cond, List, ◌++◌, Some, Ok, Err, codes, decimal}
 use Rattle.kinds.specs.Labels.{bytes_of, is_label}
 use Rattle.kinds.specs.declared.rows.slot.SlotRow.{SlotRow}
+use Rattle.kinds.specs.declared.not_a_label.NotALabel.TheVariants.{WrongByte}
 use Rattle.inventory.specs.Lines.{meaning}
 use Rattle.inventory.specs.declared.fault.Fault.TheVariants.{NotALabel}
 
@@ -15,4 +16,4 @@ row_text row =
 
 -- reading what was written for a row gives the row, and a refusal where its number is no label
 abbrev pub ReadsBack : SlotRow → Type 0
-ReadsBack row = meaning (row_text row) ≡ cond (is_label row.label) (Ok (Some row)) (Err (NotALabel 0))
+ReadsBack row = meaning (row_text row) ≡ cond (is_label row.label) (Ok (Some row)) (Err (NotALabel (WrongByte 0)))

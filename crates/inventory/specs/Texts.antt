@@ -1,5 +1,6 @@
 -- How faults and notes are worded.
-use Rattle.std.specs.Prelude.{ℕ, cond, List, ◌++◌, codes, decimal, ◌==◌}
+use Rattle.std.specs.Prelude.{ℕ, List, ◌++◌, codes, decimal}
+use Rattle.kinds.specs.declared.not_a_label.NotALabel.TheVariants.{WrongLength, WrongByte}
 use Rattle.inventory.specs.declared.fault.Field.{Field}
 use Rattle.inventory.specs.declared.fault.Field.TheVariants.{Address, Label, Gigabytes, Day}
 use Rattle.inventory.specs.declared.fault.Fault.{Fault}
@@ -18,7 +19,8 @@ abbrev pub fault_text : Fault → List ℕ
 fault_text (Missing field) = field_text field ++ codes " is missing"
 fault_text (NotANumber field) = field_text field ++ codes " is not a number"
 fault_text (TooLarge field) = field_text field ++ codes " is too large"
-fault_text (NotALabel place) = cond (place == 8) (codes "label does not have eight bytes") (codes "label has a wrong byte at place " ++ decimal place)
+fault_text (NotALabel WrongLength) = codes "label does not have eight bytes"
+fault_text (NotALabel (WrongByte place)) = codes "label has a wrong byte at place " ++ decimal place
 fault_text ExtraWord = codes "a word follows the day"
 
 abbrev pub remark_text : Remark → List ℕ

@@ -1,4 +1,7 @@
 // Why a line of an inventory is refused.
+ghost use Rattle.std.specs.Prelude.{◌≡◌};
+
+use kinds::not_a_label::NotALabel;
 
 // The words of a line, in their order.
 #[derive(Clone, Copy, PartialEq, Eq, Debug)]
@@ -17,8 +20,17 @@ pub enum Fault {
     // The word has a byte that is no digit.
     NotANumber { field: Field },
     TooLarge { field: Field },
-    // The place of the first wrong byte, counted from 0, or 8 where there are not eight bytes.
-    NotALabel { place: u8 },
+    NotALabel(NotALabel),
     // A fifth word.
     ExtraWord,
+}
+
+impl From<NotALabel> for Fault {
+    ghost use Rattle.inventory.specs.declared.fault.Fault.TheVariants.{NotALabel as LabelRefused};
+
+    ghost from_gives = { λ why r. r ≡ LabelRefused why };
+
+    fn from(why: NotALabel) -> Fault {
+        Fault::NotALabel(why)
+    }
 }

@@ -44,12 +44,7 @@ pub fn label_number(word: &[u8]) -> Result<u64, Fault>
             field: Field::Label,
         });
     }
-    match Label::read(word) {
-        Ok(label) => Ok(label.number()),
-        Err(refused) => Err(Fault::NotALabel {
-            place: refused.place,
-        }),
-    }
+    Ok(Label::try_from(word)?.into())
 }
 
 // The row that the words of a text write, or the first fault. A comment is cut off before.

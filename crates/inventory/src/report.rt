@@ -24,10 +24,8 @@ struct Stock {
 impl Stock {
     // One line more, with its number.
     fn add(&mut self, number: usize, line: Line) -> Result<(), AllocError>
-        requires rises { lists.Rising ghosts.ops self.old.rows.entries.items }
-        ensures rises { lists.Rising ghosts.ops self.new.rows.entries.items }
-        ensures rows { OnOk result (self.new.rows.entries.items ≡ after line self.old.rows.entries.items) }
-        ensures notes { OnOk result (self.new.notes.items ≡ self.old.notes.items ++ noted number (remarks line self.old.rows.entries.items)) }
+        ensures rows { OnOk result (self.new.rows ≡ after line self.old.rows) }
+        ensures notes { OnOk result (self.new.notes.items ≡ self.old.notes.items ++ noted number (remarks line self.old.rows)) }
     {
         match line {
             Ok(None) => {}
@@ -55,7 +53,7 @@ impl Stock {
 
 // All lines, in their order.
 fn take_stock(heap: Global, lines: &[Line]) -> Result<Stock, AllocError>
-    ensures rows { IfOk result (λ s. s.rows.entries.items ≡ lists.build ghosts.ops (rows_of lines.now)) }
+    ensures rows { IfOk result (λ s. s.rows ≡ lists.build ghosts.ops (rows_of lines.now)) }
     ensures notes { IfOk result (λ s. s.notes.items ≡ notes_from 1 [] lines.now) }
 {
     let mut stock = Stock {

@@ -10,9 +10,9 @@ use std::alloc::{AllocError, Global};
 pub fn label_text(number: u64) -> [u8; 8]
     ensures { result ≡ label_text number }
 {
-    match Label::from_number(number) {
-        Some(label) => label.to_bytes(),
-        None => *b"????????",
+    match Label::try_from(number) {
+        Ok(label) => label.to_bytes(),
+        Err(_) => *b"????????",
     }
 }
 

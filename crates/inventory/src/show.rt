@@ -4,6 +4,7 @@ ghost use Rattle.std.specs.Prelude.{Some};
 
 use crate::fault::{Fault, Field};
 use crate::note::{Note, Remark};
+use kinds::not_a_label::NotALabel;
 use std::fmt;
 
 impl fmt::Display for Field {
@@ -27,12 +28,11 @@ impl fmt::Display for Fault {
             Fault::Missing { field } => write!(f, "{field} is missing"),
             Fault::NotANumber { field } => write!(f, "{field} is not a number"),
             Fault::TooLarge { field } => write!(f, "{field} is too large"),
-            Fault::NotALabel { place } => {
-                if *place == 8 {
-                    write!(f, "label does not have eight bytes")
-                } else {
-                    write!(f, "label has a wrong byte at place {place}")
-                }
+            Fault::NotALabel(NotALabel::WrongLength) => {
+                write!(f, "label does not have eight bytes")
+            }
+            Fault::NotALabel(NotALabel::WrongByte { place }) => {
+                write!(f, "label has a wrong byte at place {place}")
             }
             Fault::ExtraWord => write!(f, "a word follows the day"),
         }

@@ -2,6 +2,7 @@ use crate::fault::{Fault, Field};
 use crate::line::read_line;
 use crate::row::write_row;
 use crate::text::read_text;
+use kinds::not_a_label::NotALabel;
 use kinds::rows::slot::SlotRow;
 use std::process::Abort;
 use std::test::Fail;
@@ -93,12 +94,20 @@ fn wrong_numbers(rt: HostRuntime) {
 
 #[test]
 fn wrong_labels(rt: HostRuntime) {
-    refuses(&rt, b"10 A00001L 800 300", Fault::NotALabel { place: 8 });
-    refuses(&rt, b"10 A00001L89 800 300", Fault::NotALabel { place: 8 });
+    refuses(
+        &rt,
+        b"10 A00001L 800 300",
+        Fault::NotALabel(NotALabel::WrongLength),
+    );
+    refuses(
+        &rt,
+        b"10 A00001L89 800 300",
+        Fault::NotALabel(NotALabel::WrongLength),
+    );
     for place in 0..8u8 {
         let mut line = *b"10 A00001L8 800 300";
         line[3 + place as usize] = b'-';
-        refuses(&rt, &line, Fault::NotALabel { place });
+        refuses(&rt, &line, Fault::NotALabel(NotALabel::WrongByte { place }));
     }
 }
 

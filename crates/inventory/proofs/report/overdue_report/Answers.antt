@@ -13,14 +13,14 @@ returns c =
     let read = c.in_ok-said.ensures in
     let said : c.as_slice.result.now ≡ saying text = c.as_slice.ensures.value ∙ read in
     let stock = c.in_ok-stock.ensures in
-    let rows : vec_items c.in_ok-stock.stock.rows.entries ≡ inventory text = stock.rows ∙ ap (λ ls. build ghosts.ops (rows_of ls)) said in
-    let overdue = c.in_ok-overdue.ensures ∙ ap (sift ghosts.ops c.args.limit) (c.as_slice-3.ensures ∙ rows) in
+    let rows : c.in_ok-stock.stock.rows ≡ inventory text = stock.rows ∙ ap (λ ls. build ghosts.ops (rows_of ls)) said in
+    let overdue = c.in_ok-overdue.ensures ∙ ap (sift ghosts.ops c.args.limit) (c.as_slice-3.ensures.same ∙ rows) in
     let keyed = c.told_key_by_key.ensures in
     record {
       lines = c.len.ensures ∙ c.in_ok-said.said.ok.0 ∙ ap length read ∙ length-map (lines_of text) meaning;
       notes = stock.notes ∙ ap (notes_from 1 []) said;
-      cartridges = ap length (c.as_slice-cartridges.ensures ∙ rows);
-      total = c.total-total.ensures ∙ ap (total ghosts.ops) (c.as_slice-2.ensures ∙ rows);
+      cartridges = ap length (c.as_slice-cartridges.ensures.same ∙ rows);
+      total = c.total-total.ensures ∙ ap (total ghosts.ops) (c.as_slice-2.ensures.same ∙ rows);
       overdue = overdue;
       by_address = λ a.
           ap (find ghosts.ops a) overdue ∙ keyed.sift a c.args.limit (inventory text) (c.keys_keep_rising.ensures.build (rows_of (saying text)))

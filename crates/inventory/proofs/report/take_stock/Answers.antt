@@ -8,9 +8,9 @@ loop-before-preserved c =
     let new = c.in_ok-add.ensures in
     let one = add-one c.loop-before.before in
     let line = get_or c.args.lines.now c.loop-before.before (Ok None) in
-    let notes = new.notes ∙ ap (λ n. vec_items c.loop-before.stock.notes ++ noted n (remarks line (vec_items c.loop-before.stock.rows.entries))) one in
-    subst (λ n. Sofar c.args.lines.now n (vec_items c.add.new.self.rows.entries) (vec_items c.add.new.self.notes)) (sym one)
-    (line_more c.args.lines.now _ _ _ c.loop-before.invariant (Ok None) _ _ c.loop-before-test.true new.rises new.rows notes)
+    let notes = new.notes ∙ ap (λ n. vec_items c.loop-before.stock.notes ++ noted n (remarks line c.loop-before.stock.rows)) one in
+    subst (λ n. Sofar c.args.lines.now n c.add.new.self.rows (vec_items c.add.new.self.notes)) (sym one)
+    (line_more c.args.lines.now _ _ _ c.loop-before.invariant (Ok None) _ _ c.loop-before-test.true new.rows notes)
 
 pub returns : goal.returns
 returns c =
