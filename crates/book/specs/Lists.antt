@@ -1,9 +1,10 @@
 -- The operations of an ordered map, on the list of its entries with rising keys.
-use Rattle.std.specs.Prelude.{slice_get, ◌≡◌, ℕ, Bool, true, false, cond, not, ◌&&◌, List, [], ◌∷◌, length, take, drop, is_some, Some, None, Option}
-use Rattle.std.specs.List.{filter, fold}
-use Rattle.kinds.specs.Kinds.{Ops}
+use Rattle.std.specs.Prelude.{◌≡◌, ℕ, Bool, true, false, cond, not, ◌&&◌, List, [], ◌∷◌, length, take, drop, is_some, Some, None, Option, slice_get}
+use Rattle.std.specs.Cmp.Lexicographic.{pointwise}
+use Rattle.std.specs.List.{filter, fold, find as first_where}
 -- every element has P
 pub use Rattle.std.specs.List.{AllByRecursion as Every}
+use Rattle.kinds.specs.Kinds.{Ops}
 
 -- the entry at a place, counted from 0
 abbrev pub position : {E : Type 0} → ℕ → List E → Option E
@@ -34,8 +35,7 @@ module _ {E K S L : Type 0} (o : Ops E K S L) where
   passing l x = o.passes (o.measure x) l
 
   abbrev pub find : K → List E → Option E
-  find k [] = None
-  find k (x ∷ xs) = cond (has_key k x) (Some x) (find k xs)
+  find k xs = first_where (has_key k) xs
 
   -- the number of smaller keys
   abbrev pub rank : K → List E → ℕ
@@ -100,10 +100,7 @@ module _ {E K S L : Type 0} (o : Ops E K S L) where
 
   -- whether two lists are the same, entry by entry
   abbrev pub equal : List E → List E → Bool
-  equal [] [] = true
-  equal [] (y ∷ ys) = false
-  equal (x ∷ xs) [] = false
-  equal (x ∷ xs) (y ∷ ys) = o.same x y && equal xs ys
+  equal xs ys = pointwise o.same xs ys
 
   -- what pick may answer: some entry that passes, or none where no entry does
   abbrev pub Picked : L → List E → Option E → Type 0
