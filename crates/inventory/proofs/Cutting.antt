@@ -1,20 +1,12 @@
--- How a list falls into pieces, and its first word.
-use Rattle.std.proofs.Common.{◌≡◌, ℕ, ◌+◌, ◌<◌, Bool, true, false, cond, not, eqb, ltb, Option, Some, None, ◌≤◌, List, [], ◌∷◌, ◌++◌, length, take, drop, sym, refl, ap, ◌∙◌, inl, inr, one-add, arith}
+-- How a list falls into parts, and its first word.
+use Rattle.std.proofs.Common.{◌≡◌, ℕ, ◌+◌, Bool, true, false, cond, not, ltb, Option, Some, None, ◌≤◌, List, [], ◌∷◌, length, take, drop, sym, refl, ap, ◌∙◌, inl, inr, one-add, take_all, arith}
 use Rattle.std.specs.Option.{unwrap_or}
-use Rattle.std.proofs.lemmas.List.Sums.{prefix_len-le-length}
-use Rattle.std.specs.List.{position, position_or_len, prefix_len, AllByRecursion as All}
+use Rattle.std.proofs.lemmas.List.Sums.{prefix_len-le-length, prefix_len_is}
+use Rattle.std.proofs.lemmas.List.Elements.{All-get_or}
+use Rattle.std.specs.List.{position, position_or_len, prefix_len, take_while, filter, slice_split, onto_first, All}
 use Rattle.std.proofs.Math.Bool.{not-not}
 use Rattle.std.proofs.lemmas.Bool.{cases_Bool, cases_lt, cond-true, cond-false, ne_eqb, lt-ltb, le-ltb, not_from_true, not_from_false}
-use Rattle.inventory.specs.Lines.{front_of, past_front, is_empty, longer, pieces, non_empty}
-
--- whether a list is empty, from its length
-pub empty_as : (bs : List ℕ) (t : Bool) → t ≡ eqb (length bs) 0 → is_empty bs ≡ t
-empty_as [] t h = sym h
-empty_as (b ∷ bs) t h = sym (h ∙ ne_eqb (length (b ∷ bs)) 0 (λ z. omega arith))
-
-pub some_long : (bs : List ℕ) → 0 < length bs → is_empty bs ≡ false
-some_long [] h = absurd (omega arith)
-some_long (b ∷ bs) h = refl
+use Rattle.inventory.specs.Lines.{past_front, is_empty, gap, in_word, words, first_word, after_word, Split}
 
 -- the place of the first element that fails, or else the length, is how many pass from the front on
 pub up_to_first : (p : ℕ → Bool) (bs : List ℕ) (found : Option ℕ) (n : ℕ) → found ≡ position (λ b. not (p b)) bs → n ≡ unwrap_or found (length bs) → n ≡ prefix_len p bs
@@ -29,95 +21,107 @@ up_to_first p bs found n is_found is_n =
 
 -- a front that goes on, and one that stops at once
 module _ (p : ℕ → Bool) (b : ℕ) (bs : List ℕ) where
-  pub front_on : p b ≡ true → front_of p (b ∷ bs) ≡ b ∷ front_of p bs
+  pub front_on : p b ≡ true → take_while p (b ∷ bs) ≡ b ∷ take_while p bs
   front_on yes_b = ap (λ n. take n (b ∷ bs)) (cond-true (p b) (1 + prefix_len p bs) 0 yes_b ∙ one-add (prefix_len p bs))
 
   pub past_on : p b ≡ true → past_front p (b ∷ bs) ≡ past_front p bs
   past_on yes_b = ap (λ n. drop n (b ∷ bs)) (cond-true (p b) (1 + prefix_len p bs) 0 yes_b ∙ one-add (prefix_len p bs))
 
-  pub front_stops : p b ≡ false → front_of p (b ∷ bs) ≡ []
+  pub front_stops : p b ≡ false → take_while p (b ∷ bs) ≡ []
   front_stops no_b = ap (λ n. take n (b ∷ bs)) (cond-false (p b) (1 + prefix_len p bs) 0 no_b)
 
   pub past_stops : p b ≡ false → past_front p (b ∷ bs) ≡ b ∷ bs
   past_stops no_b = ap (λ n. drop n (b ∷ bs)) (cond-false (p b) (1 + prefix_len p bs) 0 no_b)
 
+-- the parts that are words
+abbrev pub some : List ℕ → Bool
+some w = not (is_empty w)
+
 -- the elements that do not pass
 abbrev pub others : (ℕ → Bool) → ℕ → Bool
 others p b = not (p b)
 
--- the pieces after the first, where bs is what stands after it
+-- the parts after the first, where bs is what stands after it
 abbrev pub later : (ℕ → Bool) → List ℕ → List (List ℕ)
 later p [] = []
-later p (b ∷ bs) = pieces p bs
+later p (b ∷ bs) = slice_split p bs
 
 module _ (p : ℕ → Bool) where
-  pub pieces-first : (bs : List ℕ) → pieces p bs ≡ front_of (others p) bs ∷ later p (past_front (others p) bs)
-  pieces-first [] = refl
-  pieces-first (b ∷ bs) =
+  pub split-first : (bs : List ℕ) → slice_split p bs ≡ take_while (others p) bs ∷ later p (past_front (others p) bs)
+  split-first [] = refl
+  split-first (b ∷ bs) =
       elim (cases_Bool (p b)) [
         | inl cut ↦
-            let cuts = cond-true (p b) ([] ∷ pieces p bs) (longer b (pieces p bs)) cut in
+            let cuts = cond-true (p b) ([] ∷ slice_split p bs) (onto_first b (slice_split p bs)) cut in
             let front = front_stops (others p) b bs (not_from_true (p b) cut) in
             let past = past_stops (others p) b bs (not_from_true (p b) cut) in
             cc
         | inr on ↦
-            let goes = cond-false (p b) ([] ∷ pieces p bs) (longer b (pieces p bs)) on in
+            let goes = cond-false (p b) ([] ∷ slice_split p bs) (onto_first b (slice_split p bs)) on in
             let front = front_on (others p) b bs (not_from_false (p b) on) in
             let past = past_on (others p) b bs (not_from_false (p b) on) in
-            let rest = pieces-first bs in
+            let rest = split-first bs in
             cc
       ]
 
-  -- what stands after a front of others is empty or starts with an element that passes, so its first piece is empty
-  pub later-non_empty : (bs : List ℕ) → non_empty (later p (past_front (others p) bs)) ≡ non_empty (pieces p (past_front (others p) bs))
-  later-non_empty [] = refl
-  later-non_empty (b ∷ bs) =
+  -- what stands after a front of others is empty or starts with an element that passes, so its first part is empty
+  pub later-words : (bs : List ℕ) → filter some (later p (past_front (others p) bs)) ≡ filter some (slice_split p (past_front (others p) bs))
+  later-words [] = refl
+  later-words (b ∷ bs) =
       elim (cases_Bool (p b)) [
         | inl cut ↦
-            let cuts = cond-true (p b) ([] ∷ pieces p bs) (longer b (pieces p bs)) cut in
+            let cuts = cond-true (p b) ([] ∷ slice_split p bs) (onto_first b (slice_split p bs)) cut in
             let past = past_stops (others p) b bs (not_from_true (p b) cut) in
             cc
         | inr on ↦
             let past = past_on (others p) b bs (not_from_false (p b) on) in
-            let rest = later-non_empty bs in
+            let rest = later-words bs in
             cc
       ]
 
-  -- the first piece that is not empty
-  pub non_empty-first : (bs : List ℕ) →
-      non_empty (pieces p bs)
-      ≡ cond (is_empty (front_of (others p) (past_front p bs))) [] (front_of (others p) (past_front p bs) ∷ non_empty (pieces p (past_front (others p) (past_front p bs))))
-  non_empty-first [] = refl
-  non_empty-first (b ∷ bs) =
+  -- the first part that is not empty
+  pub words-first : (bs : List ℕ) →
+      filter some (slice_split p bs)
+      ≡ cond (is_empty (take_while (others p) (past_front p bs))) [] (take_while (others p) (past_front p bs) ∷ filter some (slice_split p (past_front (others p) (past_front p bs))))
+  words-first [] = refl
+  words-first (b ∷ bs) =
       elim (cases_Bool (p b)) [
         | inl cut ↦
-            let cuts = cond-true (p b) ([] ∷ pieces p bs) (longer b (pieces p bs)) cut in
+            let cuts = cond-true (p b) ([] ∷ slice_split p bs) (onto_first b (slice_split p bs)) cut in
             let past = past_on p b bs cut in
-            let rest = non_empty-first bs in
+            let rest = words-first bs in
             cc
         | inr on ↦
-            let past = past_stops p b bs on in
+            let word = take_while (others p) bs in
+            let rest = filter some (slice_split p (past_front (others p) (b ∷ bs))) in
+            let there : is_empty (b ∷ word) ≡ false = ne_eqb (length (b ∷ word)) 0 (λ z. omega arith) in
             let front = front_on (others p) b bs (not_from_false (p b) on) in
-            let whole = pieces-first (b ∷ bs) in
-            let rest = later-non_empty (b ∷ bs) in
-            cc
+            ap (filter some) (split-first (b ∷ bs) ∙ ap (λ w. w ∷ later p (past_front (others p) (b ∷ bs))) front)
+            ∙ cond-true (some (b ∷ word)) ((b ∷ word) ∷ filter some (later p (past_front (others p) (b ∷ bs)))) (filter some (later p (past_front (others p) (b ∷ bs)))) (ap not there)
+            ∙ ap (λ ws. (b ∷ word) ∷ ws) (later-words (b ∷ bs)) ∙ sym (cond-false (is_empty (b ∷ word)) [] ((b ∷ word) ∷ rest) there)
+            ∙ ap (λ w. cond (is_empty w) [] (w ∷ rest)) (sym front)
+            ∙ ap (λ t. cond (is_empty (take_while (others p) t)) [] (take_while (others p) t ∷ filter some (slice_split p (past_front (others p) t)))) (sym (past_stops p b bs on))
       ]
 
-  -- a word that no element cuts, at the end and before an element that does
-  pub pieces_end : (w : List ℕ) → All (λ b. p b ≡ false) w → pieces p w ≡ w ∷ []
-  pieces_end [] h = refl
-  pieces_end (b ∷ w) h =
-      let goes = cond-false (p b) ([] ∷ pieces p w) (longer b (pieces p w)) h.0 in
-      let rest = pieces_end w h.1 in
-      cc
+  pub front_all : (bs : List ℕ) → All (λ b. p b ≡ true) bs → take_while p bs ≡ bs
+  front_all bs h =
+      let whole : prefix_len p bs ≡ length bs = prefix_len_is p bs (length bs) 0 (omega arith) (λ k low. All-get_or (λ b. p b ≡ true) bs k 0 low h) (λ low. absurd (omega arith)) in
+      ap (λ n. take n bs) whole ∙ take_all (length bs) bs (omega arith)
 
-  pub pieces_cut : (w : List ℕ) (b : ℕ) (bs : List ℕ) → All (λ c. p c ≡ false) w → p b ≡ true → pieces p (w ++ b ∷ bs) ≡ w ∷ pieces p bs
-  pieces_cut [] b bs h cut = cond-true (p b) ([] ∷ pieces p bs) (longer b (pieces p bs)) cut
-  pieces_cut (c ∷ w) b bs h cut =
-      let goes = cond-false (p c) ([] ∷ pieces p (w ++ b ∷ bs)) (longer c (pieces p (w ++ b ∷ bs))) h.0 in
-      let rest = pieces_cut w b bs h.1 cut in
-      cc
+module _ (text found word rest : List ℕ) (is_found : found ≡ past_front gap text) (is_word : word ≡ take_while in_word found) (is_rest : rest ≡ past_front in_word found) where
+  first_is : word ≡ first_word text
+  first_is = is_word ∙ ap (take_while in_word) is_found
 
-  pub front_all : (bs : List ℕ) → All (λ b. p b ≡ true) bs → front_of p bs ≡ bs
-  front_all [] h = refl
-  front_all (b ∷ bs) h = front_on p b bs h.0 ∙ ap (λ t. b ∷ t) (front_all bs h.1)
+  pub no_word : is_empty word ≡ true → words text ≡ []
+  no_word none = let first = words-first gap text in let there = ap is_empty (sym first_is) ∙ none in first ∙ cond-true (is_empty (first_word text)) [] (first_word text ∷ words (after_word text)) there
+
+  pub first_cut : is_empty word ≡ false → Split text word rest
+  first_cut some_word =
+      let after : rest ≡ after_word text = is_rest ∙ ap (past_front in_word) is_found in
+      record {
+        front = first_is;
+        after = after;
+        first =
+            words-first gap text ∙ cond-false (is_empty (first_word text)) [] (first_word text ∷ words (after_word text)) (ap is_empty (sym first_is) ∙ some_word)
+            ∙ (λ i. sym first_is i ∷ words (sym after i));
+      }

@@ -1,78 +1,59 @@
 -- How a word of digits is read.
-use Rattle.std.proofs.Common.{◌≡◌, ℕ, ◌+◌, ◌-◌, ◌*◌, ◌<◌, ◌≤◌, Bool, true, false, cond, ◌&&◌, eqb, ltb, List, [], ◌∷◌, length, get_or, drop, Ok, Err, Result, sym, refl, ap, ◌∙◌, inl, inr, arith}
+use Rattle.std.proofs.Common.{◌≡◌, ℕ, ◌<◌, ◌≤◌, ◌^◌, true, false, cond, ◌&&◌, ltb, List, [], ◌∷◌, length, IsUtf8, Bor, MatchOption, Ok, Err, Result, sym, refl, ap, ◌∙◌, inl, inr, arith}
 use Rattle.std.specs.Char.{is_ascii_digit}
-use Rattle.std.specs.List.{prefix_len}
+use Rattle.std.specs.List.{list_all}
+use Rattle.std.specs.Result.{MatchResult, result_ok}
 use Rattle.std.specs.Str.{all_ascii_digits}
-use Rattle.std.proofs.lemmas.List.{at_drop_more}
-use Rattle.std.proofs.lemmas.Bool.{cases_Bool, cond-true, cond-false, lt-ltb, le-ltb}
-use Rattle.inventory.specs.Lines.{is_empty, read_on, number_in}
+use Rattle.std.specs.Str.Parse.{digits_value, ParsesUnsigned}
+use Rattle.std.proofs.lemmas.Str.{IsUtf8-from_ascii}
+use Rattle.std.proofs.lemmas.Str.Parse.{IsNumeralModel, numerals_by_value, tells_all_ascii_digits, parse_digits}
+use Rattle.std.proofs.lemmas.Fmt.{IsAscii-from_digits}
+use Rattle.std.proofs.lemmas.Bool.Decides.{nat_tests}
+use Rattle.std.proofs.lemmas.Bool.{cases_lt, cond-true, cond-false, lt-ltb, le-ltb}
+use Rattle.inventory.specs.Lines.{is_empty, number_in}
 use Rattle.inventory.specs.declared.fault.Field.{Field}
 use Rattle.inventory.specs.declared.fault.Fault.{Fault}
 use Rattle.inventory.specs.declared.fault.Fault.TheVariants.{Missing, NotANumber, TooLarge}
-use Rattle.inventory.proofs.Cutting.{empty_as}
 
-pub read_on_ge : (n : ℕ) (ds : List ℕ) → n ≤ read_on n ds
-read_on_ge n [] = omega arith
-read_on_ge n (d ∷ ds) = omega (arith, read_on_ge (n * 10 + (d - 48)) ds)
+pub own : IsNumeralModel (λ ds. all_ascii_digits ds ≡ true) (digits_value 10)
+own = numerals_by_value (λ ds. all_ascii_digits ds ≡ true) tells_all_ascii_digits
 
--- one digit more: v is what the digits before i write
-pub read_on_more : (word : List ℕ) (i v d : ℕ) → i < length word → d ≡ get_or word i 0 - 48 → read_on v (drop i word) ≡ read_on 0 word →
-    read_on (v * 10 + d) (drop (i + 1) word) ≡ read_on 0 word
-read_on_more word i v d h is inv = ap (λ x. read_on (v * 10 + x) (drop (i + 1) word)) is ∙ sym (at_drop_more (read_on v) word i 0 h) ∙ inv
+digits_utf8 : (ds : List ℕ) → all_ascii_digits ds ≡ true → IsUtf8 ds
+digits_utf8 ds h = IsUtf8-from_ascii ds (IsAscii-from_digits ds (own.to ds h))
 
--- all bytes are digits exactly where the front of digits is the whole word
-pub some_other : (bs : List ℕ) → prefix_len is_ascii_digit bs < length bs → all_ascii_digits bs ≡ false
-some_other [] h = absurd (omega arith)
-some_other (b ∷ bs) h =
-    elim (cases_Bool (is_ascii_digit b)) [
-      | inl a ↦
-          let on = cond-true (is_ascii_digit b) (1 + prefix_len is_ascii_digit bs) 0 a in
-          let rest = some_other bs (omega arith) in
-          cc
-      | inr a ↦ ap (λ (t : Bool). t && all_ascii_digits bs) a
-    ]
+pub all_tested : (ds : List ℕ) → list_all is_ascii_digit ds ≡ all_ascii_digits ds
+all_tested [] = refl
+all_tested (d ∷ ds) = ap (λ t. is_ascii_digit d && t) (all_tested ds)
 
-pub no_other : (bs : List ℕ) → length bs ≤ prefix_len is_ascii_digit bs → all_ascii_digits bs ≡ true
-no_other [] h = refl
-no_other (b ∷ bs) h =
-    elim (cases_Bool (is_ascii_digit b)) [
-      | inl a ↦
-          let on = cond-true (is_ascii_digit b) (1 + prefix_len is_ascii_digit bs) 0 a in
-          let rest = no_other bs (omega arith) in
-          cc
-      | inr a ↦
-          let off = cond-false (is_ascii_digit b) (1 + prefix_len is_ascii_digit bs) 0 a in
-          absurd (omega arith)
-    ]
+-- that such a word is text
+pub as_text : {E : Type 0} (P : E → Type 0) (word : List ℕ) (r : Result (Bor (List ℕ)) E) → all_ascii_digits word ≡ true → MatchResult r (λ s. (s.now ≡ word) × IsUtf8 word) (λ e. ¬ (IsUtf8 word) × P e) →
+    MatchOption (result_ok r) (all_ascii_digits word ≡ false) (λ text. (text.now ≡ word) × (all_ascii_digits word ≡ true))
+as_text P word (Ok s) all h = (h.0, all)
+as_text P word (Err e) all h = absurd (h.0 (digits_utf8 word all))
 
--- the three answers for a word that is there
-module _ (field : Field) (most : ℕ) (word : List ℕ) where
+-- a word of digits, as a number of at most `most` and as a larger one
+module _ (field : Field) (most : ℕ) (word : List ℕ) (there : is_empty word ≡ false) (all : all_ascii_digits word ≡ true) where
   large : Result ℕ Fault
-  large = cond (ltb most (read_on 0 word)) (Err (TooLarge field)) (Ok (read_on 0 word))
+  large = cond (ltb most (digits_value 10 word)) (Err (TooLarge field)) (Ok (digits_value 10 word))
 
-  digits : Result ℕ Fault
-  digits = cond (all_ascii_digits word) large (Err (NotANumber field))
-
-  looked : is_empty word ≡ false → number_in field most word ≡ digits
-  unfolding digits large
-  looked there = cond-false (is_empty word) (Err (Missing field)) digits there
-
-  measured : is_empty word ≡ false → all_ascii_digits word ≡ true → number_in field most word ≡ large
-  unfolding digits large
-  measured there all = looked there ∙ cond-true (all_ascii_digits word) large (Err (NotANumber field)) all
-
-  pub read_number : is_empty word ≡ false → all_ascii_digits word ≡ true → read_on 0 word ≤ most → number_in field most word ≡ Ok (read_on 0 word)
+  measured : number_in field most word ≡ large
   unfolding large
-  read_number there all fits = measured there all ∙ cond-false (ltb most (read_on 0 word)) (Err (TooLarge field)) (Ok (read_on 0 word)) (le-ltb most (read_on 0 word) fits)
+  measured = cond-false (is_empty word) (Err (Missing field)) (cond (all_ascii_digits word) large (Err (NotANumber field))) there ∙ cond-true (all_ascii_digits word) large (Err (NotANumber field)) all
 
-  module _ (there : false ≡ eqb (length word) 0) where
-    pub not_a_number : prefix_len is_ascii_digit word < length word → Err (NotANumber field) ≡ number_in field most word
-    unfolding digits large
-    not_a_number h = sym (looked (empty_as word false there) ∙ cond-false (all_ascii_digits word) large (Err (NotANumber field)) (some_other word h))
+  pub read_number : digits_value 10 word ≤ most → number_in field most word ≡ Ok (digits_value 10 word)
+  unfolding large
+  read_number fits = measured ∙ cond-false (ltb most (digits_value 10 word)) (Err (TooLarge field)) (Ok (digits_value 10 word)) (le-ltb most (digits_value 10 word) fits)
 
-    pub too_large : length word ≤ prefix_len is_ascii_digit word → most < read_on 0 word → Err (TooLarge field) ≡ number_in field most word
-    unfolding large
-    too_large h over = sym (measured (empty_as word false there) (no_other word h) ∙ cond-true (ltb most (read_on 0 word)) (Err (TooLarge field)) (Ok (read_on 0 word)) (lt-ltb most (read_on 0 word) over))
+  pub too_large : most < digits_value 10 word → number_in field most word ≡ Err (TooLarge field)
+  unfolding large
+  too_large over = measured ∙ cond-true (ltb most (digits_value 10 word)) (Err (TooLarge field)) (Ok (digits_value 10 word)) (lt-ltb most (digits_value 10 word) over)
 
-    pub a_number : length word ≤ prefix_len is_ascii_digit word → read_on 0 word ≤ most → Ok (read_on 0 word) ≡ number_in field most word
-    a_number h fits = sym (read_number (empty_as word false there) (no_other word h) fits)
+  -- what `parse` refuses does not fit 32 bits
+  pub unread : {E : Type 0} (r : Result ℕ E) (e : E) → ParsesUnsigned 32 10 word r → r ≡ Err e → most < 2 ^ 32 → Err (TooLarge field) ≡ number_in field most word
+  unread (Ok n) e h is small = cc
+  unread (Err d) e h is small =
+      let long : 0 < length word = grind (arith, nat_tests) in
+      elim (cases_lt (digits_value 10 word) (2 ^ 32)) [
+        | inl low ↦ absurd (parse_digits own 32 word (Err d) h all (long, low))
+        | inr high ↦ sym (too_large (omega arith))
+      ]

@@ -1,27 +1,28 @@
 -- That reading what was written for a row gives the row.
-use Rattle.std.proofs.Common.{◌≡◌, ℕ, ◌^◌, ◌<◌, ◌≤◌, true, false, List, [], ◌∷◌, ◌++◌, Some, Ok, Err, codes, IsUtf8, decimal, Result, sym, refl, ap, ◌∙◌, inl, inr, arith, rules}
+use Rattle.std.proofs.Common.{◌≡◌, ℕ, ◌^◌, ◌<◌, ◌≤◌, true, false, not, List, [], length, ◌∷◌, ◌++◌, Some, Ok, Err, codes, IsUtf8, decimal, Result, sym, refl, ap, ◌∙◌, inl, inr, arith, rules}
 use Rattle.std.specs.Result.{result_map_both}
 use Rattle.std.specs.Char.{is_ascii_digit}
-use Rattle.std.specs.List.{list_all, AllByRecursion as All}
+use Rattle.std.specs.List.{list_all, All, take_while, filter, slice_split}
 use Rattle.std.specs.Str.{all_ascii_digits}
-use Rattle.std.proofs.ByRecursion.{IsAscii-from_all, All-append, All-weaker}
+use Rattle.std.proofs.lemmas.List.Elements.{All-nil, All-cons, All-append, All-weaker}
+use Rattle.std.proofs.lemmas.List.Splits.{slice_split_none, slice_split_at}
+use Rattle.std.proofs.lemmas.Str.Ascii.{IsAscii-from_all}
 use Rattle.std.proofs.lemmas.Fmt.{digits_decimal, digits_value-decimal, decimal_nonempty}
-use Rattle.std.proofs.lemmas.Str.Parse.{IsNumeralModel, numerals_by_fold, tells_all_ascii_digits}
-use Rattle.std.proofs.lemmas.Bool.{cases_Bool, and_parts, cond-true, cond-false, cond_both}
+use Rattle.std.proofs.lemmas.Bool.{cases_Bool, and_parts, cond-true, cond-false, cond_both, ne_eqb}
 use Rattle.std.proofs.lemmas.Str.{IsUtf8-from_ascii}
 use Rattle.std.proofs.lemmas.Bool.Decides.{nat_tests}
 use Rattle.kinds.specs.declared.not_a_label.NotALabel.TheVariants.{WrongByte}
 use Rattle.kinds.specs.Labels.{allowed, bytes_of, is_label, reading}
 use Rattle.kinds.proofs.Reading.{reads_back as number_reads_back}
 use Rattle.kinds.specs.declared.rows.slot.SlotRow.{SlotRow}
-use Rattle.inventory.specs.Lines.{in_text, front_of, is_empty, non_empty, gap, words, read_on, number_in, label_in, line_of}
+use Rattle.inventory.specs.Lines.{in_text, is_empty, gap, words, number_in, label_in, line_of}
 use Rattle.inventory.specs.Rows.{label_text, row_text, ReadsBack}
 use Rattle.inventory.specs.declared.fault.Field.{Field}
 use Rattle.inventory.specs.declared.fault.Field.TheVariants.{Address, Gigabytes, Day}
 use Rattle.inventory.specs.declared.fault.Fault.{Fault}
 use Rattle.inventory.specs.declared.fault.Fault.TheVariants.{NotALabel}
-use Rattle.inventory.proofs.Cutting.{some_long, pieces_end, pieces_cut, front_all}
-use Rattle.inventory.proofs.Decimals.{read_number}
+use Rattle.inventory.proofs.Cutting.{some, front_all}
+use Rattle.inventory.proofs.Decimals.{own, read_number}
 use Rattle.inventory.proofs.Rowing.{row_by_lem, no_label_by}
 
 -- every byte of a number or a label is from 0 to Z: past the gaps and the sign of a comment, and ASCII
@@ -35,50 +36,50 @@ sign_content : (b : ℕ) → Sign b → in_text b ≡ true
 sign_content b h = grind (arith, nat_tests)
 
 signs_from_digits : (ds : List ℕ) → all_ascii_digits ds ≡ true → All Sign ds
-signs_from_digits [] h = tt
+signs_from_digits [] h = All-nil Sign
 signs_from_digits (d ∷ ds) h =
     let both = and_parts (is_ascii_digit d) (all_ascii_digits ds) h in
     let here : is_ascii_digit d ≡ true = both.0 in
     let low : 48 ≤ d = grind (arith, nat_tests) in
     let high : d ≤ 90 = grind (arith, nat_tests) in
-    ((low, high), signs_from_digits ds both.1)
+    All-cons Sign d ds (low, high) (signs_from_digits ds both.1)
 
 signs_from_allowed : (bs : List ℕ) → list_all allowed bs ≡ true → All Sign bs
-signs_from_allowed [] h = tt
+signs_from_allowed [] h = All-nil Sign
 signs_from_allowed (b ∷ bs) h =
     let both = and_parts (allowed b) (list_all allowed bs) h in
     let here : allowed b ≡ true = both.0 in
     let low : 48 ≤ b = grind (arith, nat_tests) in
     let high : b ≤ 90 = grind (arith, nat_tests) in
-    ((low, high), signs_from_allowed bs both.1)
+    All-cons Sign b bs (low, high) (signs_from_allowed bs both.1)
 
 signs_marks : All Sign (codes "????????")
 signs_marks = search rules
 
 -- the words of a text whose words are known from the left
-module _ (w : List ℕ) (some : is_empty w ≡ false) (signs : All Sign w) where
+module _ (w : List ℕ) (there : is_empty w ≡ false) (signs : All Sign w) where
   cut_free : All (λ b. gap b ≡ false) w
   cut_free = All-weaker Sign (λ b. gap b ≡ false) sign_no_gap w signs
 
+  kept : (ws : List (List ℕ)) → filter some (w ∷ ws) ≡ w ∷ filter some ws
+  kept ws = cond-true (some w) (w ∷ filter some ws) (filter some ws) (ap not there)
+
   words_end : words w ≡ w ∷ []
-  words_end = ap non_empty (pieces_end gap w cut_free) ∙ cond-false (is_empty w) [] (w ∷ []) some
+  words_end = ap (filter some) (slice_split_none gap w cut_free) ∙ kept []
 
   words_cut : (bs : List ℕ) → words (w ++ 32 ∷ bs) ≡ w ∷ words bs
-  words_cut bs = ap non_empty (pieces_cut gap w 32 bs cut_free refl) ∙ cond-false (is_empty w) (words bs) (w ∷ words bs) some
+  words_cut bs = ap (filter some) (slice_split_at gap w 32 bs cut_free refl) ∙ kept (slice_split gap bs)
 
   no_comment : All (λ b. in_text b ≡ true) w
   no_comment = All-weaker Sign (λ b. in_text b ≡ true) sign_content w signs
 
 -- a number
-own : IsNumeralModel (λ ds. all_ascii_digits ds ≡ true) (read_on 0)
-own = numerals_by_fold (λ ds. all_ascii_digits ds ≡ true) tells_all_ascii_digits read_on (search rules)
-
 module _ (n : ℕ) (small : n < 2 ^ 64) where
   decimal-digits : all_ascii_digits (decimal n) ≡ true
   decimal-digits = digits_decimal own n small
 
   decimal_there : is_empty (decimal n) ≡ false
-  decimal_there = some_long (decimal n) (decimal_nonempty n small)
+  decimal_there = (let long = decimal_nonempty n small in ne_eqb (length (decimal n)) 0 (λ z. omega arith))
 
   decimal_signs : All Sign (decimal n)
   decimal_signs = signs_from_digits (decimal n) decimal-digits
@@ -137,7 +138,7 @@ module _ (row : SlotRow) (address : row.address < 65536) (label : row.label < 2 
       ∙ ap (λ ws. l ∷ ws) (words_cut g (decimal_there row.gigabytes (omega arith)) (decimal_signs row.gigabytes (omega arith)) d
       ∙ ap (λ ws. g ∷ ws) (words_end d (decimal_there row.day (omega arith)) (decimal_signs row.day (omega arith)))))
 
-  uncut : front_of in_text (row_text row) ≡ row_text row
+  uncut : take_while in_text (row_text row) ≡ row_text row
   unfolding a l g d
   uncut =
       let kept : ℕ → Type 0 = λ b. in_text b ≡ true in
@@ -146,7 +147,7 @@ module _ (row : SlotRow) (address : row.address < 65536) (label : row.label < 2 
       let in_g = no_comment g (decimal_there row.gigabytes (omega arith)) (decimal_signs row.gigabytes (omega arith)) in
       let in_d = no_comment d (decimal_there row.day (omega arith)) (decimal_signs row.day (omega arith)) in
       front_all in_text (row_text row)
-      (All-append kept a (32 ∷ (l ++ 32 ∷ (g ++ 32 ∷ d))) in_a (refl, All-append kept l (32 ∷ (g ++ 32 ∷ d)) in_l (refl, All-append kept g (32 ∷ d) in_g (refl, in_d))))
+      (All-append kept a (32 ∷ (l ++ 32 ∷ (g ++ 32 ∷ d))) in_a (All-cons kept 32 _ refl (All-append kept l (32 ∷ (g ++ 32 ∷ d)) in_l (All-cons kept 32 _ refl (All-append kept g (32 ∷ d) in_g (All-cons kept 32 _ refl in_d))))))
 
   pub reads_back : ReadsBack row
   unfolding a l g d

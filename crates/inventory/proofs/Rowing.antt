@@ -1,23 +1,13 @@
 -- How a row is read word by word.
-use Rattle.std.proofs.Common.{◌≡◌, ℕ, Bool, true, false, cond, eqb, List, [], ◌∷◌, length, Ok, Err, Result, sym, refl, ap, ◌∙◌}
-use Rattle.inventory.specs.Lines.{gap, is_empty, words, first_word, after_word, Split, number_in, label_in, row_by, row_of}
+use Rattle.std.proofs.Common.{◌≡◌, ℕ, ◌+◌, Bool, true, false, not, Option, None, Some, MatchOption, Bor, is_some, refl, List, [], ◌∷◌, drop, get_or, Ok, Err, Result, sym, ap, ◌∙◌, subst}
+use Rattle.std.specs.List.{All, slice_split}
+use Rattle.std.proofs.lemmas.List.Elements.{All-head, filter_passes}
+use Rattle.std.proofs.lemmas.Grind.{get_or_after_one}
+use Rattle.inventory.specs.Lines.{gap, is_empty, words, number_in, label_in, row_by, row_of}
 use Rattle.inventory.specs.declared.fault.Field.TheVariants.{Address, Gigabytes, Day}
 use Rattle.inventory.specs.declared.fault.Fault.{Fault}
 use Rattle.inventory.specs.declared.fault.Fault.TheVariants.{ExtraWord}
-use Rattle.inventory.proofs.Cutting.{empty_as, non_empty-first}
-
--- w is the first of the words ws, and empty where there is none; vs are the others
-abbrev First : List ℕ → List (List ℕ) → List (List ℕ) → Type 0
-First w vs ws = ws ≡ cond (is_empty w) [] (w ∷ vs)
-
-row_words : (a l g d e : List ℕ) (u v w x y z : List (List ℕ)) → First a v u → First l w v → First g x w → First d y x → First e z y →
-    row_of u ≡ row_by (number_in Address 65535 a) (label_in l) (number_in Gigabytes 4294967295 g) (number_in Day 65535 d) (is_empty e)
-row_words [] l g d e u v w x y z is_u is_v is_w is_x is_y = ap row_of is_u
-row_words (b ∷ a) [] g d e u v w x y z is_u is_v is_w is_x is_y = let all : u ≡ (b ∷ a) ∷ [] = cc in ap row_of all
-row_words (b ∷ a) (c ∷ l) [] d e u v w x y z is_u is_v is_w is_x is_y = let all : u ≡ (b ∷ a) ∷ (c ∷ l) ∷ [] = cc in ap row_of all
-row_words (b ∷ a) (c ∷ l) (h ∷ g) [] e u v w x y z is_u is_v is_w is_x is_y = let all : u ≡ (b ∷ a) ∷ (c ∷ l) ∷ (h ∷ g) ∷ [] = cc in ap row_of all
-row_words (b ∷ a) (c ∷ l) (h ∷ g) (k ∷ d) [] u v w x y z is_u is_v is_w is_x is_y = let all : u ≡ (b ∷ a) ∷ (c ∷ l) ∷ (h ∷ g) ∷ (k ∷ d) ∷ [] = cc in ap row_of all
-row_words (b ∷ a) (c ∷ l) (h ∷ g) (k ∷ d) (m ∷ e) u v w x y z is_u is_v is_w is_x is_y = let all : u ≡ (b ∷ a) ∷ (c ∷ l) ∷ (h ∷ g) ∷ (k ∷ d) ∷ (m ∷ e) ∷ z = cc in ap row_of all
+use Rattle.inventory.proofs.Cutting.{some}
 
 -- what four answers make
 module _ (ra rl rg rd : Result ℕ Fault) where
@@ -31,46 +21,47 @@ module _ (ra rl rg rd : Result ℕ Fault) where
   pub no_label_by : (last : Bool) (x : ℕ) (fault : Fault) → ra ≡ Ok x → rl ≡ Err fault → row_by ra rl rg rd last ≡ Err fault
   no_label_by last x fault is_x is = cc
 
-  no_gigabytes_by : (last : Bool) (x n : ℕ) (fault : Fault) → ra ≡ Ok x → rl ≡ Ok n → rg ≡ Err fault → row_by ra rl rg rd last ≡ Err fault
-  no_gigabytes_by last x n fault is_x is_n is = cc
+not_true : (b : Bool) → not b ≡ true → b ≡ false
+not_true true h = cc
+not_true false h = refl
 
-  no_day_by : (last : Bool) (x n y : ℕ) (fault : Fault) → ra ≡ Ok x → rl ≡ Ok n → rg ≡ Ok y → rd ≡ Err fault → row_by ra rl rg rd last ≡ Err fault
-  no_day_by last x n y fault is_x is_n is_y is = cc
+-- a word has a byte
+pub word_there : (bs w : List ℕ) (ws : List (List ℕ)) → words bs ≡ w ∷ ws → is_empty w ≡ false
+word_there bs w ws is =
+    let passes : some w ≡ true = All-head (λ v. some v ≡ true) w ws (subst (λ vs. All (λ v. some v ≡ true) vs) is (filter_passes some (slice_split gap bs))) in
+    not_true (is_empty w) passes
 
-next : (t : List ℕ) → Split t (first_word t) (after_word t)
-next t = record { front = refl; after = refl; first = non_empty-first gap t }
+-- one word later
+next : (us vs : List (List ℕ)) (k : ℕ) → vs ≡ drop 1 us → get_or vs k [] ≡ get_or us (1 + k) []
+next us vs k is = ap (λ ws. get_or ws k []) is ∙ get_or_after_one us k []
 
-split_row : {t a t1 l t2 g t3 d t4 e t5 : List ℕ} → Split t a t1 → Split t1 l t2 → Split t2 g t3 → Split t3 d t4 → Split t4 e t5 →
-    row_of (words t) ≡ row_by (number_in Address 65535 a) (label_in l) (number_in Gigabytes 4294967295 g) (number_in Day 65535 d) (is_empty e)
-split_row {t} {a} {t1} {l} {t2} {g} {t3} {d} {t4} {e} {t5} s1 s2 s3 s4 s5 =
-    row_words a l g d e (words t) (words t1) (words t2) (words t3) (words t4) (words t5) s1.first s2.first s3.first s4.first s5.first
+-- four words are read from ts, and us, vs, ws and xs are left after each
+module _ (ts us vs ws xs : List (List ℕ)) (is_us : us ≡ drop 1 ts) (is_vs : vs ≡ drop 1 us) (is_ws : ws ≡ drop 1 vs) (is_xs : xs ≡ drop 1 ws) (x n y z : ℕ) (is_x : Ok x ≡ number_in Address 65535 (get_or ts 0 [])) (is_n : Ok n ≡ label_in (get_or us 0 [])) (is_y : Ok y ≡ number_in Gigabytes 4294967295 (get_or vs 0 [])) (is_z : Ok z ≡ number_in Day 65535 (get_or ws 0 [])) where
+  second : label_in (get_or ts 1 []) ≡ Ok n
+  second = ap label_in (sym (next ts us 0 is_us)) ∙ sym is_n
 
--- the answers after the second word, the third, the fourth and the fifth
-module _ {t a t1 l t2 : List ℕ} (s1 : Split t a t1) (s2 : Split t1 l t2) {x : ℕ} (is_x : Ok x ≡ number_in Address 65535 a) where
-  pub no_label : {fault : Fault} → Err fault ≡ label_in l → Err fault ≡ row_of (words t)
-  no_label {fault} is =
-      sym (split_row s1 s2 (next t2) (next (after_word t2)) (next (after_word (after_word t2)))
-      ∙ no_label_by (number_in Address 65535 a) (label_in l) (number_in Gigabytes 4294967295 (first_word t2)) (number_in Day 65535 (first_word (after_word t2)))
-      (is_empty (first_word (after_word (after_word t2)))) x fault (sym is_x) (sym is))
+  third : number_in Gigabytes 4294967295 (get_or ts 2 []) ≡ Ok y
+  third = ap (number_in Gigabytes 4294967295) (sym (next us vs 0 is_vs ∙ next ts us 1 is_us)) ∙ sym is_y
 
-module _ {t a t1 l t2 g t3 : List ℕ} (s1 : Split t a t1) (s2 : Split t1 l t2) (s3 : Split t2 g t3) {x n : ℕ} (is_x : Ok x ≡ number_in Address 65535 a) (is_n : Ok n ≡ label_in l) where
-  pub no_gigabytes : {fault : Fault} → Err fault ≡ number_in Gigabytes 4294967295 g → Err fault ≡ row_of (words t)
-  no_gigabytes {fault} is =
-      sym (split_row s1 s2 s3 (next t3) (next (after_word t3))
-      ∙ no_gigabytes_by (number_in Address 65535 a) (label_in l) (number_in Gigabytes 4294967295 g) (number_in Day 65535 (first_word t3)) (is_empty (first_word (after_word t3))) x n fault (sym is_x) (sym is_n) (sym is))
+  fourth : number_in Day 65535 (get_or ts 3 []) ≡ Ok z
+  fourth = ap (number_in Day 65535) (sym (next vs ws 0 is_ws ∙ next us vs 1 is_vs ∙ next ts us 2 is_us)) ∙ sym is_z
 
-  module _ {d t4 : List ℕ} (s4 : Split t3 d t4) {y : ℕ} (is_y : Ok y ≡ number_in Gigabytes 4294967295 g) where
-    pub no_day : {fault : Fault} → Err fault ≡ number_in Day 65535 d → Err fault ≡ row_of (words t)
-    no_day {fault} is =
-        sym (split_row s1 s2 s3 s4 (next t4)
-        ∙ no_day_by (number_in Address 65535 a) (label_in l) (number_in Gigabytes 4294967295 g) (number_in Day 65535 d) (is_empty (first_word t4)) x n y fault (sym is_x) (sym is_n) (sym is_y) (sym is))
+  fifth : get_or ts 4 [] ≡ get_or xs 0 []
+  fifth = sym (next ws xs 0 is_xs ∙ next vs ws 1 is_ws ∙ next us vs 2 is_vs ∙ next ts us 3 is_us)
 
-    module _ {e t5 : List ℕ} (s5 : Split t4 e t5) {z : ℕ} (is_z : Ok z ≡ number_in Day 65535 d) where
-      ended : (none : Bool) → none ≡ eqb (length e) 0 → row_of (words t) ≡ row_by (number_in Address 65535 a) (label_in l) (number_in Gigabytes 4294967295 g) (number_in Day 65535 d) none
-      ended none is = split_row s1 s2 s3 s4 s5 ∙ ap (row_by (number_in Address 65535 a) (label_in l) (number_in Gigabytes 4294967295 g) (number_in Day 65535 d)) (empty_as e none is)
+  row_is : row_of ts ≡ row_by (number_in Address 65535 (get_or ts 0 [])) (label_in (get_or ts 1 [])) (number_in Gigabytes 4294967295 (get_or ts 2 [])) (number_in Day 65535 (get_or ts 3 [])) (is_empty (get_or xs 0 []))
+  row_is = ap (λ w. row_by (number_in Address 65535 (get_or ts 0 [])) (label_in (get_or ts 1 [])) (number_in Gigabytes 4294967295 (get_or ts 2 [])) (number_in Day 65535 (get_or ts 3 [])) (is_empty w)) fifth
 
-      pub extra : false ≡ eqb (length e) 0 → Err ExtraWord ≡ row_of (words t)
-      extra is = sym (ended false is ∙ extra_by (number_in Address 65535 a) (label_in l) (number_in Gigabytes 4294967295 g) (number_in Day 65535 d) x n y z (sym is_x) (sym is_n) (sym is_y) (sym is_z))
+  pub whole : xs ≡ [] → Ok (record { label = n; gigabytes = y; address = x; day = z }) ≡ row_of ts
+  whole none =
+      let last : is_empty (get_or xs 0 []) ≡ true = ap (λ vs. is_empty (get_or vs 0 [])) none in
+      let row = row_by_lem _ _ _ _ x n y z (sym is_x) second third fourth in
+      cc (row_is, last, row)
 
-      pub whole : true ≡ eqb (length e) 0 → Ok (record { label = n; gigabytes = y; address = x; day = z }) ≡ row_of (words t)
-      whole is = sym (ended true is ∙ row_by_lem (number_in Address 65535 a) (label_in l) (number_in Gigabytes 4294967295 g) (number_in Day 65535 d) x n y z (sym is_x) (sym is_n) (sym is_y) (sym is_z))
+  -- a call of `next` gave a fifth word; bs is the text that is left before it
+  pub extra : (bs : List ℕ) (r : Option (Bor (List ℕ))) (ys : List (List ℕ)) → xs ≡ words bs → MatchOption r ((xs ≡ []) × (ys ≡ [])) (λ w. xs ≡ w.now ∷ ys) → true ≡ is_some r → Err ExtraWord ≡ row_of ts
+  extra bs None ys is_bs h some_word = cc
+  extra bs (Some w) ys is_bs h some_word =
+      let last : is_empty (get_or xs 0 []) ≡ false = ap (λ vs. is_empty (get_or vs 0 [])) h ∙ word_there bs w.now ys (sym is_bs ∙ h) in
+      let row = extra_by _ _ _ _ x n y z (sym is_x) second third fourth in
+      cc (row_is, last, row)

@@ -1,39 +1,23 @@
 -- The words of a line, what a line says, and the lines of a text.
-use Rattle.std.specs.Prelude.{◌≡◌, ℕ, ◌+◌, ◌-◌, ◌*◌, ◌<◌, Bool, true, false, cond, not, ◌||◌, List, [], ◌∷◌, length, take, drop, Option, Some, None, Ok, Err, Result, ◌==◌, nat_eq, nat_lt, slice_index_or}
+use Rattle.std.specs.Prelude.{◌≡◌, ℕ, ◌+◌, ◌<◌, Bool, cond, not, ◌||◌, List, [], ◌∷◌, length, drop, Option, Some, None, Ok, Err, Result, ◌==◌, nat_lt, slice_index_or}
 use Rattle.std.specs.Result.{result_map_both}
-use Rattle.std.specs.List.{prefix_len}
+use Rattle.std.specs.List.{prefix_len, take_while, filter, slice_split}
 use Rattle.std.specs.Str.{all_ascii_digits}
+use Rattle.std.specs.Str.Parse.{digits_value}
 use Rattle.kinds.specs.Labels.{reading}
 use Rattle.kinds.specs.declared.rows.slot.SlotRow.{SlotRow}
+use Rattle.inventory.specs.declared.words.Words.{Words}
 use Rattle.inventory.specs.declared.fault.Field.{Field}
 use Rattle.inventory.specs.declared.fault.Field.TheVariants.{Address, Label, Gigabytes, Day}
 use Rattle.inventory.specs.declared.fault.Fault.{Fault}
 use Rattle.inventory.specs.declared.fault.Fault.TheVariants.{Missing, NotANumber, TooLarge, NotALabel, ExtraWord}
 
--- the longest front of elements that pass, and what stands after it
-abbrev pub front_of : (ℕ → Bool) → List ℕ → List ℕ
-front_of p bs = take (prefix_len p bs) bs
-
+-- what stands after the longest front of elements that pass
 abbrev pub past_front : (ℕ → Bool) → List ℕ → List ℕ
 past_front p bs = drop (prefix_len p bs) bs
 
 abbrev pub is_empty : List ℕ → Bool
-is_empty [] = true
-is_empty (b ∷ bs) = false
-
--- one byte more in front of the first of the pieces
-abbrev pub longer : ℕ → List (List ℕ) → List (List ℕ)
-longer b [] = (b ∷ []) ∷ []
-longer b (p ∷ ps) = (b ∷ p) ∷ ps
-
--- what stands before, between and after the elements that pass: one piece more than there are such elements
-abbrev pub pieces : (ℕ → Bool) → List ℕ → List (List ℕ)
-pieces p [] = [] ∷ []
-pieces p (b ∷ bs) = cond (p b) ([] ∷ pieces p bs) (longer b (pieces p bs))
-
-abbrev pub non_empty : List (List ℕ) → List (List ℕ)
-non_empty [] = []
-non_empty (p ∷ ps) = cond (is_empty p) (non_empty ps) (p ∷ non_empty ps)
+is_empty bs = length bs == 0
 
 -- go on with the value, or keep the error
 abbrev pub and_then : {T U E : Type 0} → Result T E → (T → Result U E) → Result U E
@@ -61,31 +45,30 @@ in_line b = not (b == 10)
 
 -- the longest runs of bytes that are no gap
 abbrev pub words : List ℕ → List (List ℕ)
-words bs = non_empty (pieces gap bs)
+words bs = filter (λ w. not (is_empty w)) (slice_split gap bs)
 
 -- the first word, and what stands after it
 abbrev pub first_word : List ℕ → List ℕ
-first_word bs = front_of in_word (past_front gap bs)
+first_word bs = take_while in_word (past_front gap bs)
 
 abbrev pub after_word : List ℕ → List ℕ
 after_word bs = past_front in_word (past_front gap bs)
 
--- a text, cut after its first word; the word is empty where there is none
+-- a text that has a word, cut after its first one
 pub record Split (text word rest : List ℕ) : Type 0 where
   pub front : word ≡ first_word text
   pub after : rest ≡ after_word text
-  pub first : words text ≡ cond (is_empty word) [] (word ∷ words rest)
+  pub first : words text ≡ word ∷ words rest
 
--- the number that digits write after n
-abbrev pub read_on : ℕ → List ℕ → ℕ
-read_on n [] = n
-read_on n (d ∷ ds) = read_on (n * 10 + (d - 48)) ds
+-- the words that an iterator has left
+abbrev pub words_left : Words → List (List ℕ)
+words_left it = words it.rest.now
 
 -- a word as the number of a field; no word is the empty word
 abbrev pub number_in : Field → ℕ → List ℕ → Result ℕ Fault
 number_in field most word =
     cond (is_empty word) (Err (Missing field))
-    (cond (all_ascii_digits word) (cond (nat_lt most (read_on 0 word)) (Err (TooLarge field)) (Ok (read_on 0 word))) (Err (NotANumber field)))
+    (cond (all_ascii_digits word) (cond (nat_lt most (digits_value 10 word)) (Err (TooLarge field)) (Ok (digits_value 10 word))) (Err (NotANumber field)))
 
 -- a word as the number of a label: a wrong one is refused as reading refuses it
 abbrev pub label_in : List ℕ → Result ℕ Fault
@@ -113,7 +96,7 @@ line_of (w ∷ ws) = result_map_both (λ row. Some row) (λ fault. fault) (row_o
 
 -- what a line says: its words, with what stands from the first # on cut off
 abbrev pub meaning : List ℕ → Said
-meaning line = line_of (words (front_of in_text line))
+meaning line = line_of (words (take_while in_text line))
 
 -- no piece after the last line end where nothing stands there
 abbrev pub ended : List (List ℕ) → List (List ℕ)
@@ -123,11 +106,11 @@ ended (p ∷ q ∷ ps) = p ∷ ended (q ∷ ps)
 
 -- the lines of a text, each without its line end
 abbrev pub lines_of : List ℕ → List (List ℕ)
-lines_of text = ended (pieces (λ b. nat_eq b 10) text)
+lines_of text = ended (slice_split (λ b. b == 10) text)
 
 -- a text that is not empty, cut after its first line
 pub record Cut (text line rest : List ℕ) : Type 0 where
-  pub front : line ≡ front_of in_line text
+  pub front : line ≡ take_while in_line text
   pub after : rest ≡ drop (length line + 1) text
   pub first : lines_of text ≡ line ∷ lines_of rest
   pub shorter : length rest < length text

@@ -1,7 +1,7 @@
 // The longest front of bytes that pass a test, and the test that tells words apart.
 ghost use Rattle.std.specs.Prelude.{◌≡◌, ℕ, ◌≤◌, Bool, length};
-ghost use Rattle.std.specs.List.{prefix_len};
-ghost use Rattle.inventory.specs.Lines.{Computes, gap, front_of, past_front};
+ghost use Rattle.std.specs.List.{prefix_len, take_while};
+ghost use Rattle.inventory.specs.Lines.{Computes, gap, past_front};
 
 // Space, tab and carriage return, which stand between words.
 pub fn is_gap(byte: u8) -> bool
@@ -25,7 +25,7 @@ pub fn front_length<F: Fn(u8) -> bool>(bytes: &[u8], test: F) -> usize
 // The bytes before the first that fails, and those from there on.
 pub fn split_front<F: Fn(u8) -> bool>(bytes: &[u8], test: F) -> (&[u8], &[u8])
     requires { F.IsAlwaysCallable test }
-    ensures front { (p : ℕ → Bool) → Computes (F.post test) p → result.0.now ≡ front_of p bytes.now }
+    ensures front { (p : ℕ → Bool) → Computes (F.post test) p → result.0.now ≡ take_while p bytes.now }
     ensures rest { (p : ℕ → Bool) → Computes (F.post test) p → result.1.now ≡ past_front p bytes.now }
 {
     bytes.split_at(front_length(bytes, test))

@@ -1,19 +1,31 @@
 // What one line of an inventory says.
-ghost use Rattle.std.specs.Prelude.{◌≡◌, ◌≤◌, true, IfOk, IfSome};
+ghost use Rattle.std.specs.Prelude.{◌≡◌, ◌≤◌, true, false, [], ◌∷◌, drop, slice_index_or, IfOk, IfSome, MatchOption, MatchResult};
+ghost use Rattle.std.specs.Str.{all_ascii_digits};
+ghost use Rattle.inventory.specs.declared.fault.Fault.TheVariants.{Missing};
 ghost use Rattle.kinds.specs.Labels.{is_label};
-ghost use Rattle.inventory.specs.Lines.{number_in, label_in, row_of, words, meaning};
+ghost use Rattle.inventory.specs.Lines.{number_in, label_in, row_of, words, words_left, meaning};
 
 use crate::fault::{Fault, Field};
-use crate::front::{front_length, split_front};
-use crate::words::split_word;
+use crate::front::split_front;
+use crate::words::Words;
 use kinds::label::Label;
 use kinds::rows::slot::SlotRow;
 
 // What a line says: a row, or nothing where it is empty or a comment alone.
 pub type Line = Result<Option<SlotRow>, Fault>;
 
+// A word of digits alone, as text.
+fn digits(word: &[u8]) -> Option<&str>
+    ensures { MatchOption result (all_ascii_digits word.now ≡ false) (λ text. (text.now ≡ word.now) × (all_ascii_digits word.now ≡ true)) }
+{
+    if word.iter().all(u8::is_ascii_digit) {
+        str::from_utf8(word).ok()
+    } else {
+        None
+    }
+}
+
 // A word as the number of a field; an empty one stands for no word.
-// The sum stops once it passes `most`, so it fits however long the word is.
 pub fn number(word: &[u8], field: Field, most: u32) -> Result<u32, Fault>
     ensures value { result ≡ number_in field most word.now }
     ensures within { IfOk result (λ n. n ≤ most) }
@@ -21,17 +33,11 @@ pub fn number(word: &[u8], field: Field, most: u32) -> Result<u32, Fault>
     if word.is_empty() {
         return Err(Fault::Missing { field });
     }
-    if front_length(word, |digit| digit.is_ascii_digit()) < word.len() {
-        return Err(Fault::NotANumber { field });
+    let text = digits(word).ok_or(Fault::NotANumber { field })?;
+    match text.parse::<u32>() {
+        Ok(value) if value <= most => Ok(value),
+        _ => Err(Fault::TooLarge { field }),
     }
-    let mut value: u64 = 0;
-    for digit in word {
-        value = value * 10 + u64::from(digit.saturating_sub(b'0'));
-        if value > u64::from(most) {
-            return Err(Fault::TooLarge { field });
-        }
-    }
-    Ok(value as u32)
 }
 
 // A word as the number of a label; an empty one stands for no word.
@@ -47,21 +53,43 @@ pub fn label_number(word: &[u8]) -> Result<u64, Fault>
     Ok(Label::try_from(word)?.into())
 }
 
+// The next word, which is for a field.
+fn next_word<'a>(words: &mut Words<'a>, field: Field) -> Result<&'a [u8], Fault>
+    ensures word { MatchResult result (λ word. words_left words.old ≡ word.now ∷ words_left words.new) (λ fault. (words_left words.old ≡ []) × (fault ≡ Missing field)) }
+    ensures rest { words_left words.new ≡ drop 1 (words_left words.old) }
+{
+    words.next().ok_or(Fault::Missing { field })
+}
+
+// The next word as the number of a field.
+fn next_number(words: &mut Words, field: Field, most: u32) -> Result<u32, Fault>
+    ensures value { result ≡ number_in field most (slice_index_or (words_left words.old) 0 []) }
+    ensures within { IfOk result (λ n. n ≤ most) }
+    ensures rest { words_left words.new ≡ drop 1 (words_left words.old) }
+{
+    number(next_word(words, field)?, field, most)
+}
+
+// The next word as the number of a label.
+fn next_label(words: &mut Words) -> Result<u64, Fault>
+    ensures value { result ≡ label_in (slice_index_or (words_left words.old) 0 []) }
+    ensures labelled { IfOk result (λ n. is_label n ≡ true) }
+    ensures rest { words_left words.new ≡ drop 1 (words_left words.old) }
+{
+    label_number(next_word(words, Field::Label)?)
+}
+
 // The row that the words of a text write, or the first fault. A comment is cut off before.
 pub fn read_row(text: &[u8]) -> Result<SlotRow, Fault>
     ensures value { result ≡ row_of (words text.now) }
     ensures labelled { IfOk result (λ row. is_label row.label ≡ true) }
 {
-    let (word, rest) = split_word(text);
-    let address = number(word, Field::Address, 65535)?;
-    let (word, rest) = split_word(rest);
-    let label = label_number(word)?;
-    let (word, rest) = split_word(rest);
-    let gigabytes = number(word, Field::Gigabytes, 4294967295)?;
-    let (word, rest) = split_word(rest);
-    let day = number(word, Field::Day, 65535)?;
-    let (word, _) = split_word(rest);
-    if !word.is_empty() {
+    let mut words = Words::new(text);
+    let address = next_number(&mut words, Field::Address, 65535)?;
+    let label = next_label(&mut words)?;
+    let gigabytes = next_number(&mut words, Field::Gigabytes, 4294967295)?;
+    let day = next_number(&mut words, Field::Day, 65535)?;
+    if words.next().is_some() {
         return Err(Fault::ExtraWord);
     }
     Ok(SlotRow {
@@ -78,8 +106,7 @@ pub fn read_line(line: &[u8]) -> Line
     ensures labelled { IfOk result (λ found. IfSome found (λ row. is_label row.label ≡ true)) }
 {
     let (text, _) = split_front(line, |byte| byte != b'#');
-    let (word, _) = split_word(text);
-    if word.is_empty() {
+    if Words::new(text).next().is_none() {
         return Ok(None);
     }
     read_row(text).map(Some)
