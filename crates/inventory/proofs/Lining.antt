@@ -1,5 +1,5 @@
 -- How a text is cut after its first line.
-use Rattle.std.proofs.Common.{◌≡◌, ℕ, ◌+◌, ◌-◌, ◌<◌, Bool, List, [], ◌∷◌, ◌++◌, map, length, drop, sym, ap, ◌∙◌, append_assoc, arith}
+use Rattle.std.proofs.Common.{◌≡◌, ℕ, ◌+◌, ◌-◌, ◌<◌, Bool, List, [], ◌∷◌, length, drop, sym, ap, ◌∙◌, arith}
 use Rattle.std.specs.List.{prefix_len, take_while}
 use Rattle.std.specs.Prelude.{◌==◌}
 use Rattle.std.proofs.lemmas.List.{length-take-le, length-drop, drop-drop, nil_from_length}
@@ -33,8 +33,3 @@ module _ (text line past : List ℕ) (is_line : line ≡ take_while in_line text
   -- nothing stands after the line
   pub cut_last : length past ≡ 0 → Cut text line past
   cut_last none = let nil = nil_from_length past none in cut past (nil ∙ sym (ap (drop 1) nil))
-
--- one element more in a loop that maps: done and done' are what it has before and after
-pub map_on : {X Y : Type 0} (f : X → Y) (done done' all : List Y) (xs rest : List X) (x : X) (y : Y) →
-    done ++ map f xs ≡ all → xs ≡ x ∷ rest → y ≡ f x → done' ≡ done ++ y ∷ [] → done' ++ map f rest ≡ all
-map_on f done done' all xs rest x y inv is_xs is_y is_done = let joined = append_assoc done (y ∷ []) (map f rest) in cc

@@ -1,6 +1,6 @@
 // The lines of an inventory.
 ghost use Rattle.std.specs.Prelude.{◌≡◌, [], map, IfOk, MatchOption};
-ghost use Rattle.inventory.specs.Lines.{Cut, lines_of, meaning};
+ghost use Rattle.inventory.specs.Lines.{Cut, lines_of, lines_left, meaning};
 
 use crate::front::split_front;
 use crate::line::{Line, read_line};
@@ -20,15 +20,40 @@ pub fn next_line(text: &[u8]) -> Option<(&[u8], &[u8])>
     }
 }
 
+// The lines of a text, from the first on.
+#[derive(Drop)]
+pub struct Lines<'a> {
+    rest: &'a [u8],
+}
+
+impl<'a> Lines<'a> {
+    pub fn new(text: &'a [u8]) -> Lines<'a>
+        ensures { lines_left result ≡ lines_of text.now }
+    {
+        Lines { rest: text }
+    }
+}
+
+impl<'a> Iterator for Lines<'a> {
+    ghost use Rattle.std.specs.Iterator.{YieldsFirstRef, item_count};
+    ghost use Rattle.inventory.specs.Lines.{lines_left};
+
+    type Item = &'a [u8];
+
+    ghost next_gives = { YieldsFirstRef lines_left };
+
+    ghost remaining = { item_count lines_left };
+
+    fn next(&mut self) -> Option<&'a [u8]> {
+        let (line, after) = next_line(self.rest)?;
+        self.rest = after;
+        Some(line)
+    }
+}
+
 // What each line of a text says, in their order.
 pub fn read_text(heap: Global, text: &[u8]) -> Result<Vec<Line>, AllocError>
     ensures { IfOk result (λ v. v.items ≡ map meaning (lines_of text.now)) }
 {
-    let mut lines = Vec::new(heap);
-    let mut rest = text;
-    while let Some((line, after)) = next_line(rest) {
-        lines.push(read_line(line))?;
-        rest = after;
-    }
-    Ok(lines)
+    Lines::new(text).map(read_line).collect(heap)
 }

@@ -1,10 +1,10 @@
-use Rattle.std.proofs.Common.{map, vec_items}
-use Rattle.inventory.specs.Lines.{meaning, lines_of}
-use Rattle.inventory.proofs.Lining.{map_on}
+use Rattle.std.proofs.Common.{rules, tests}
+use Rattle.std.proofs.lemmas.Iterator.{YieldsList-from_map, items_from_collect}
+use Rattle.std.proofs.lemmas.Iterator.Consumers.{YieldsList-at, YieldsList-from_first}
+use Rattle.inventory.specs.Lines.{meaning, lines_of, lines_left}
 use Rattle.inventory.proofs.text.read_text.Goals as goal
 
-pub loop-line-preserved : goal.loop-line-preserved
-loop-line-preserved c =
-    map_on meaning (vec_items c.loop-line.lines) (vec_items c.push.new.self) (map meaning (lines_of c.args.text.now))
-    (lines_of c.loop-line.rest.now) (lines_of c.in-Some.after.now) c.in-Some.line.now c.read_line.result
-    c.loop-line.invariant c.in-Some.ensures.first c.read_line.ensures.value c.in_ok-push.ensures.items
+pub returns : goal.returns
+returns c =
+    let lines = YieldsList-from_first (λ x. x.now) lines_left (lines_of c.args.text.now) c.new.ensures in
+    items_from_collect c.collect.result c.collect.ensures.ran (YieldsList-from_map _ meaning (YieldsList-at c.map.ensures.source lines) c.map.ensures.closure (λ x r q k. search (rules, tests)))
