@@ -3,4 +3,3 @@ pub mod Decimals
 pub mod Lining
 pub mod ReadBack
 pub mod Rowing
-pub mod Stocking

@@ -60,8 +60,8 @@ fn take_stock(heap: Global, lines: &[Line]) -> Result<Stock, AllocError>
         rows: SortedVec::new(heap),
         notes: Vec::new(heap),
     };
-    for (before, line) in lines.iter().enumerate() {
-        stock.add(before + 1, *line)?;
+    for (number, line) in (1..).zip(lines) {
+        stock.add(number, *line)?;
     }
     Ok(stock)
 }
