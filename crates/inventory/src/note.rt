@@ -1,7 +1,7 @@
 // What the report has to say of single lines.
 use crate::fault::Fault;
 
-#[derive(Clone, Copy)]
+#[derive(Clone, Copy, PartialEq, Eq, Debug)]
 pub enum Remark {
     // The line is refused.
     Faulty(Fault),
@@ -10,7 +10,7 @@ pub enum Remark {
 }
 
 // A remark with the number of its line, counted from 1.
-#[derive(Clone, Copy)]
+#[derive(Clone, Copy, PartialEq, Eq, Debug)]
 pub struct Note {
     pub line: usize,
     pub remark: Remark,

@@ -1,11 +1,8 @@
 use Rattle.std.proofs.Common.{rules}
-use Rattle.std.proofs.lemmas.List.{nil_from_length, take_rest}
+use Rattle.std.proofs.lemmas.List.{take_rest}
 use Rattle.inventory.specs.Lines.{in_line}
 use Rattle.inventory.proofs.Lining.{cut, cut_last}
 use Rattle.inventory.proofs.text.next_line.Goals as goal
-
-pub returns-then-is_empty : goal.returns-then-is_empty
-returns-then-is_empty c = search (rules, nil_from_length)
 
 pub returns-in-empty : goal.returns-in-empty
 returns-in-empty c =
