@@ -1,5 +1,6 @@
 -- What the overdue report tells of an inventory.
-use Rattle.std.specs.Prelude.{ℕ, suc, cond, List, [], ◌∷◌, ◌++◌, map, is_some, Some, None, Ok, Err}
+use Rattle.std.specs.Prelude.{ℕ, suc, cond, List, [], ◌∷◌, ◌++◌, map, is_some, Option, Some, None, Ok, Err}
+use Rattle.std.specs.List.{filter_map}
 use Rattle.kinds.specs.declared.rows.slot.SlotRow.{SlotRow}
 use Rattle.kinds.specs.contracts.rows.slot.SlotRowKind.TheImpl.{ghosts}
 use Rattle.book.specs.Lists.{find, put, build}
@@ -8,12 +9,14 @@ use Rattle.inventory.specs.declared.note.Note.{Note}
 use Rattle.inventory.specs.declared.note.Remark.{Remark}
 use Rattle.inventory.specs.declared.note.Remark.TheVariants.{Faulty, Repeated}
 
+-- the row that a line says, if it says one
+abbrev pub row_said : Said → Option SlotRow
+row_said (Ok found) = found
+row_said (Err fault) = None
+
 -- the rows among lines, in their order
 abbrev pub rows_of : List Said → List SlotRow
-rows_of [] = []
-rows_of (Ok None ∷ ls) = rows_of ls
-rows_of (Ok (Some row) ∷ ls) = row ∷ rows_of ls
-rows_of (Err fault ∷ ls) = rows_of ls
+rows_of ls = filter_map row_said ls
 
 -- the inventory after one more line
 abbrev pub after : Said → List SlotRow → List SlotRow
