@@ -1,5 +1,5 @@
 -- That reading what was written for a row gives the row.
-use Rattle.std.proofs.Common.{◌≡◌, ℕ, ◌^◌, ◌<◌, ◌≤◌, true, false, not, List, [], length, ◌∷◌, ◌++◌, Some, Ok, Err, codes, IsUtf8, decimal, Result, sym, refl, ap, ◌∙◌, inl, inr, arith, rules}
+use Rattle.std.proofs.Common.{◌≡◌, ℕ, ◌^◌, ◌<◌, ◌≤◌, true, false, not, List, [], length, ◌∷◌, ◌++◌, Some, Ok, Err, codes, IsUtf8, decimal, sym, refl, ap, ◌∙◌, inl, inr, arith, rules}
 use Rattle.std.specs.Result.{result_map_both}
 use Rattle.std.specs.Char.{is_ascii_digit}
 use Rattle.std.specs.List.{list_all, All, take_while, filter, slice_split}
@@ -12,7 +12,7 @@ use Rattle.std.proofs.lemmas.Bool.{cases_Bool, and_parts, cond-true, cond-false,
 use Rattle.std.proofs.lemmas.Str.{IsUtf8-from_ascii}
 use Rattle.std.proofs.lemmas.Bool.Decides.{nat_tests}
 use Rattle.kinds.specs.declared.not_a_label.NotALabel.TheVariants.{WrongByte}
-use Rattle.kinds.specs.Labels.{allowed, bytes_of, is_label, reading}
+use Rattle.kinds.specs.Labels.{allowed, bytes_of, is_label}
 use Rattle.kinds.proofs.Reading.{reads_back as number_reads_back}
 use Rattle.kinds.specs.declared.rows.slot.SlotRow.{SlotRow}
 use Rattle.inventory.specs.Lines.{in_text, is_empty, gap, words, number_in, label_in, line_of}

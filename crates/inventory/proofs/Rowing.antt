@@ -18,6 +18,12 @@ module _ (ra rl rg rd : Result ℕ Fault) where
   extra_by : (x n y z : ℕ) → ra ≡ Ok x → rl ≡ Ok n → rg ≡ Ok y → rd ≡ Ok z → row_by ra rl rg rd false ≡ Err ExtraWord
   extra_by x n y z is_x is_n is_y is_z = cc
 
+  pub no_day_by : (last : Bool) (x n y : ℕ) (fault : Fault) → ra ≡ Ok x → rl ≡ Ok n → rg ≡ Ok y → rd ≡ Err fault → row_by ra rl rg rd last ≡ Err fault
+  no_day_by last x n y fault is_x is_n is_y is = cc
+
+  pub no_gigabytes_by : (last : Bool) (x n : ℕ) (fault : Fault) → ra ≡ Ok x → rl ≡ Ok n → rg ≡ Err fault → row_by ra rl rg rd last ≡ Err fault
+  no_gigabytes_by last x n fault is_x is_n is = cc
+
   pub no_label_by : (last : Bool) (x : ℕ) (fault : Fault) → ra ≡ Ok x → rl ≡ Err fault → row_by ra rl rg rd last ≡ Err fault
   no_label_by last x fault is_x is = cc
 
@@ -65,3 +71,19 @@ module _ (ts us vs ws xs : List (List ℕ)) (is_us : us ≡ drop 1 ts) (is_vs : 
       let last : is_empty (get_or xs 0 []) ≡ false = ap (λ vs. is_empty (get_or vs 0 [])) h ∙ word_there bs w.now ys (sym is_bs ∙ h) in
       let row = extra_by _ _ _ _ x n y z (sym is_x) second third fourth in
       cc (row_is, last, row)
+
+-- the third or the fourth word is refused
+module _ (ts us vs : List (List ℕ)) (is_us : us ≡ drop 1 ts) (is_vs : vs ≡ drop 1 us) (x n : ℕ) (fault : Fault) (is_x : Ok x ≡ number_in Address 65535 (get_or ts 0 [])) (is_n : Ok n ≡ label_in (get_or us 0 [])) where
+  label_is : label_in (get_or ts 1 []) ≡ Ok n
+  label_is = ap label_in (sym (next ts us 0 is_us)) ∙ sym is_n
+
+  pub no_gigabytes : Err fault ≡ number_in Gigabytes 4294967295 (get_or vs 0 []) → Err fault ≡ row_of ts
+  no_gigabytes is =
+      let third : number_in Gigabytes 4294967295 (get_or ts 2 []) ≡ Err fault = ap (number_in Gigabytes 4294967295) (sym (next us vs 0 is_vs ∙ next ts us 1 is_us)) ∙ sym is in
+      sym (no_gigabytes_by _ _ _ _ _ x n fault (sym is_x) label_is third)
+
+  pub no_day : (ws : List (List ℕ)) (y : ℕ) → ws ≡ drop 1 vs → Ok y ≡ number_in Gigabytes 4294967295 (get_or vs 0 []) → Err fault ≡ number_in Day 65535 (get_or ws 0 []) → Err fault ≡ row_of ts
+  no_day ws y is_ws is_y is =
+      let third : number_in Gigabytes 4294967295 (get_or ts 2 []) ≡ Ok y = ap (number_in Gigabytes 4294967295) (sym (next us vs 0 is_vs ∙ next ts us 1 is_us)) ∙ sym is_y in
+      let fourth : number_in Day 65535 (get_or ts 3 []) ≡ Err fault = ap (number_in Day 65535) (sym (next vs ws 0 is_ws ∙ next us vs 1 is_vs ∙ next ts us 2 is_us)) ∙ sym is in
+      sym (no_day_by _ _ _ _ _ x n y fault (sym is_x) label_is third fourth)
