@@ -22,12 +22,12 @@ pub fn next_line(text: &[u8]) -> Option<(&[u8], &[u8])>
 
 // The lines of a text, from the first on.
 #[derive(Drop)]
-pub struct Lines<'a> {
+struct Lines<'a> {
     rest: &'a [u8],
 }
 
 impl<'a> Lines<'a> {
-    pub fn new(text: &'a [u8]) -> Lines<'a>
+    fn new(text: &'a [u8]) -> Lines<'a>
         ensures { lines_left result ≡ lines_of text.now }
     {
         Lines { rest: text }
