@@ -1,5 +1,5 @@
 -- How a word of digits is read.
-use Rattle.std.proofs.Common.{◌≡◌, ℕ, ◌<◌, ◌≤◌, ◌^◌, true, false, cond, ◌&&◌, ltb, List, [], ◌∷◌, length, IsUtf8, Bor, MatchOption, Ok, Err, Result, sym, refl, ap, ◌∙◌, inl, inr, arith}
+use Rattle.std.proofs.Common.{◌≡◌, ℕ, ◌<◌, ◌≤◌, ◌^◌, true, false, ◌&&◌, List, [], ◌∷◌, length, IsUtf8, Bor, MatchOption, Ok, Err, Result, sym, refl, ap, inl, inr, arith}
 use Rattle.std.specs.Char.{is_ascii_digit}
 use Rattle.std.specs.List.{list_all}
 use Rattle.std.specs.Result.{MatchResult, result_ok}
@@ -9,11 +9,10 @@ use Rattle.std.proofs.lemmas.Str.{IsUtf8-from_ascii}
 use Rattle.std.proofs.lemmas.Str.Parse.{IsNumeralModel, numerals_by_value, tells_all_ascii_digits, parse_digits}
 use Rattle.std.proofs.lemmas.Fmt.{IsAscii-from_digits}
 use Rattle.std.proofs.lemmas.Bool.Decides.{nat_tests}
-use Rattle.std.proofs.lemmas.Bool.{cases_lt, cond-true, cond-false, lt-ltb, le-ltb}
+use Rattle.std.proofs.lemmas.Bool.{cases_lt, lt-ltb, le-ltb}
 use Rattle.inventory.specs.Lines.{is_empty, number_in}
 use Rattle.inventory.specs.declared.fault.Field.{Field}
-use Rattle.inventory.specs.declared.fault.Fault.{Fault}
-use Rattle.inventory.specs.declared.fault.Fault.TheVariants.{Missing, NotANumber, TooLarge}
+use Rattle.inventory.specs.declared.fault.Fault.TheVariants.{TooLarge}
 
 pub own : IsNumeralModel (λ ds. all_ascii_digits ds ≡ true) (digits_value 10)
 own = numerals_by_value (λ ds. all_ascii_digits ds ≡ true) tells_all_ascii_digits
@@ -33,20 +32,11 @@ as_text P word (Err e) all h = absurd (h.0 (digits_utf8 word all))
 
 -- a word of digits, as a number of at most `most` and as a larger one
 module _ (field : Field) (most : ℕ) (word : List ℕ) (there : is_empty word ≡ false) (all : all_ascii_digits word ≡ true) where
-  large : Result ℕ Fault
-  large = cond (ltb most (digits_value 10 word)) (Err (TooLarge field)) (Ok (digits_value 10 word))
-
-  measured : number_in field most word ≡ large
-  unfolding large
-  measured = cond-false (is_empty word) (Err (Missing field)) (cond (all_ascii_digits word) large (Err (NotANumber field))) there ∙ cond-true (all_ascii_digits word) large (Err (NotANumber field)) all
-
   pub read_number : digits_value 10 word ≤ most → number_in field most word ≡ Ok (digits_value 10 word)
-  unfolding large
-  read_number fits = measured ∙ cond-false (ltb most (digits_value 10 word)) (Err (TooLarge field)) (Ok (digits_value 10 word)) (le-ltb most (digits_value 10 word) fits)
+  read_number fits = rw (there, all, le-ltb most (digits_value 10 word) fits)
 
-  pub too_large : most < digits_value 10 word → number_in field most word ≡ Err (TooLarge field)
-  unfolding large
-  too_large over = measured ∙ cond-true (ltb most (digits_value 10 word)) (Err (TooLarge field)) (Ok (digits_value 10 word)) (lt-ltb most (digits_value 10 word) over)
+  too_large : most < digits_value 10 word → number_in field most word ≡ Err (TooLarge field)
+  too_large over = rw (there, all, lt-ltb most (digits_value 10 word) over)
 
   -- what `parse` refuses does not fit 32 bits
   pub unread : {E : Type 0} (r : Result ℕ E) (e : E) → ParsesUnsigned 32 10 word r → r ≡ Err e → most < 2 ^ 32 → Err (TooLarge field) ≡ number_in field most word

@@ -23,7 +23,6 @@ use Rattle.inventory.specs.declared.fault.Fault.{Fault}
 use Rattle.inventory.specs.declared.fault.Fault.TheVariants.{NotALabel}
 use Rattle.inventory.proofs.Cutting.{some, front_all}
 use Rattle.inventory.proofs.Decimals.{own, read_number}
-use Rattle.inventory.proofs.Rowing.{row_by_lem, no_label_by}
 
 -- every byte of a number or a label is from 0 to Z: past the gaps and the sign of a comment, and ASCII
 abbrev Sign : ℕ → Type 0
@@ -62,7 +61,7 @@ module _ (w : List ℕ) (there : is_empty w ≡ false) (signs : All Sign w) wher
   cut_free = All-weaker Sign (λ b. gap b ≡ false) sign_no_gap w signs
 
   kept : (ws : List (List ℕ)) → filter some (w ∷ ws) ≡ w ∷ filter some ws
-  kept ws = cond-true (some w) (w ∷ filter some ws) (filter some ws) (ap not there)
+  kept ws = rw there
 
   words_end : words w ≡ w ∷ []
   words_end = ap (filter some) (slice_split_none gap w cut_free) ∙ kept []
@@ -112,10 +111,10 @@ module _ (n : ℕ) where
 -- the four words of a line, read
 module _ (a l g d : List ℕ) (x y z : ℕ) (is_x : number_in Address 65535 a ≡ Ok x) (is_y : number_in Gigabytes 4294967295 g ≡ Ok y) (is_z : number_in Day 65535 d ≡ Ok z) where
   four_read : (n : ℕ) → label_in l ≡ Ok n → line_of (a ∷ l ∷ g ∷ d ∷ []) ≡ Ok (Some (record { label = n; gigabytes = y; address = x; day = z }))
-  four_read n is_n = ap (result_map_both (λ row. Some row) (λ fault. fault)) (row_by_lem (number_in Address 65535 a) (label_in l) (number_in Gigabytes 4294967295 g) (number_in Day 65535 d) x n y z is_x is_n is_y is_z)
+  four_read n is_n = rw (is_x, is_n, is_y, is_z)
 
   four_refused : (fault : Fault) → label_in l ≡ Err fault → line_of (a ∷ l ∷ g ∷ d ∷ []) ≡ Err fault
-  four_refused fault is_fault = ap (result_map_both (λ row. Some row) (λ fault. fault)) (no_label_by (number_in Address 65535 a) (label_in l) (number_in Gigabytes 4294967295 g) (number_in Day 65535 d) true x fault is_x is_fault)
+  four_refused fault is_fault = rw (is_x, is_fault)
 
 module _ (row : SlotRow) (address : row.address < 65536) (label : row.label < 2 ^ 64) (gigabytes : row.gigabytes < 4294967296) (day : row.day < 65536) where
   a : List ℕ

@@ -1,41 +1,19 @@
 -- How a row is read word by word.
-use Rattle.std.proofs.Common.{◌≡◌, ℕ, ◌+◌, Bool, true, false, not, Option, None, Some, MatchOption, Bor, is_some, refl, List, [], ◌∷◌, drop, get_or, Ok, Err, Result, sym, ap, ◌∙◌, subst}
+use Rattle.std.proofs.Common.{◌≡◌, ℕ, ◌+◌, true, false, not, Option, None, Some, MatchOption, Bor, is_some, List, [], ◌∷◌, drop, get_or, Ok, Err, sym, ap, ◌∙◌, subst}
 use Rattle.std.specs.List.{All, slice_split}
 use Rattle.std.proofs.lemmas.List.Elements.{All-head, filter_passes}
+use Rattle.std.proofs.Math.Bool.{not-not}
 use Rattle.std.proofs.lemmas.Grind.{get_or_after_one}
 use Rattle.inventory.specs.Lines.{gap, is_empty, words, number_in, label_in, row_by, row_of}
 use Rattle.inventory.specs.declared.fault.Field.TheVariants.{Address, Gigabytes, Day}
-use Rattle.inventory.specs.declared.fault.Fault.{Fault}
 use Rattle.inventory.specs.declared.fault.Fault.TheVariants.{ExtraWord}
 use Rattle.inventory.proofs.Cutting.{some}
-
--- what four answers make
-module _ (ra rl rg rd : Result ℕ Fault) where
-  pub row_by_lem : (x n y z : ℕ) → ra ≡ Ok x → rl ≡ Ok n → rg ≡ Ok y → rd ≡ Ok z →
-      row_by ra rl rg rd true ≡ Ok (record { label = n; gigabytes = y; address = x; day = z })
-  row_by_lem x n y z is_x is_n is_y is_z = cc
-
-  extra_by : (x n y z : ℕ) → ra ≡ Ok x → rl ≡ Ok n → rg ≡ Ok y → rd ≡ Ok z → row_by ra rl rg rd false ≡ Err ExtraWord
-  extra_by x n y z is_x is_n is_y is_z = cc
-
-  pub no_day_by : (last : Bool) (x n y : ℕ) (fault : Fault) → ra ≡ Ok x → rl ≡ Ok n → rg ≡ Ok y → rd ≡ Err fault → row_by ra rl rg rd last ≡ Err fault
-  no_day_by last x n y fault is_x is_n is_y is = cc
-
-  pub no_gigabytes_by : (last : Bool) (x n : ℕ) (fault : Fault) → ra ≡ Ok x → rl ≡ Ok n → rg ≡ Err fault → row_by ra rl rg rd last ≡ Err fault
-  no_gigabytes_by last x n fault is_x is_n is = cc
-
-  pub no_label_by : (last : Bool) (x : ℕ) (fault : Fault) → ra ≡ Ok x → rl ≡ Err fault → row_by ra rl rg rd last ≡ Err fault
-  no_label_by last x fault is_x is = cc
-
-not_true : (b : Bool) → not b ≡ true → b ≡ false
-not_true true h = cc
-not_true false h = refl
 
 -- a word has a byte
 pub word_there : (bs w : List ℕ) (ws : List (List ℕ)) → words bs ≡ w ∷ ws → is_empty w ≡ false
 word_there bs w ws is =
     let passes : some w ≡ true = All-head (λ v. some v ≡ true) w ws (subst (λ vs. All (λ v. some v ≡ true) vs) is (filter_passes some (slice_split gap bs))) in
-    not_true (is_empty w) passes
+    sym (not-not (is_empty w)) ∙ ap not passes
 
 -- one word later
 next : (us vs : List (List ℕ)) (k : ℕ) → vs ≡ drop 1 us → get_or vs k [] ≡ get_or us (1 + k) []
@@ -61,16 +39,14 @@ module _ (ts us vs ws xs : List (List ℕ)) (is_us : us ≡ drop 1 ts) (is_vs : 
   pub whole : xs ≡ [] → Ok (record { label = n; gigabytes = y; address = x; day = z }) ≡ row_of ts
   whole none =
       let last : is_empty (get_or xs 0 []) ≡ true = ap (λ vs. is_empty (get_or vs 0 [])) none in
-      let row = row_by_lem _ _ _ _ x n y z (sym is_x) second third fourth in
-      cc (row_is, last, row)
+      cc (row_is, last, second, third, fourth)
 
   -- a call of `next` gave a fifth word; bs is the text that is left before it
   pub extra : (bs : List ℕ) (r : Option (Bor (List ℕ))) (ys : List (List ℕ)) → xs ≡ words bs → MatchOption r ((xs ≡ []) × (ys ≡ [])) (λ w. xs ≡ w.now ∷ ys) → true ≡ is_some r → Err ExtraWord ≡ row_of ts
   extra bs None ys is_bs h some_word = cc
   extra bs (Some w) ys is_bs h some_word =
       let last : is_empty (get_or xs 0 []) ≡ false = ap (λ vs. is_empty (get_or vs 0 [])) h ∙ word_there bs w.now ys (sym is_bs ∙ h) in
-      let row = extra_by _ _ _ _ x n y z (sym is_x) second third fourth in
-      cc (row_is, last, row)
+      cc (row_is, last, second, third, fourth)
 
 -- the third or the fourth word is refused
 module _ (ts us vs : List (List ℕ)) (is_us : us ≡ drop 1 ts) (is_vs : vs ≡ drop 1 us) (x n : ℕ) (fault : Fault) (is_x : Ok x ≡ number_in Address 65535 (get_or ts 0 [])) (is_n : Ok n ≡ label_in (get_or us 0 [])) where
@@ -80,10 +56,10 @@ module _ (ts us vs : List (List ℕ)) (is_us : us ≡ drop 1 ts) (is_vs : vs ≡
   pub no_gigabytes : Err fault ≡ number_in Gigabytes 4294967295 (get_or vs 0 []) → Err fault ≡ row_of ts
   no_gigabytes is =
       let third : number_in Gigabytes 4294967295 (get_or ts 2 []) ≡ Err fault = ap (number_in Gigabytes 4294967295) (sym (next us vs 0 is_vs ∙ next ts us 1 is_us)) ∙ sym is in
-      sym (no_gigabytes_by _ _ _ _ _ x n fault (sym is_x) label_is third)
+      cc (label_is, third)
 
   pub no_day : (ws : List (List ℕ)) (y : ℕ) → ws ≡ drop 1 vs → Ok y ≡ number_in Gigabytes 4294967295 (get_or vs 0 []) → Err fault ≡ number_in Day 65535 (get_or ws 0 []) → Err fault ≡ row_of ts
   no_day ws y is_ws is_y is =
       let third : number_in Gigabytes 4294967295 (get_or ts 2 []) ≡ Ok y = ap (number_in Gigabytes 4294967295) (sym (next us vs 0 is_vs ∙ next ts us 1 is_us)) ∙ sym is_y in
       let fourth : number_in Day 65535 (get_or ts 3 []) ≡ Err fault = ap (number_in Day 65535) (sym (next vs ws 0 is_ws ∙ next us vs 1 is_vs ∙ next ts us 2 is_us)) ∙ sym is in
-      sym (no_day_by _ _ _ _ _ x n y fault (sym is_x) label_is third fourth)
+      cc (label_is, third, fourth)
