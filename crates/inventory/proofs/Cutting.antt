@@ -1,11 +1,11 @@
 -- How a list falls into parts, and its first word.
-use Rattle.std.proofs.Common.{◌≡◌, ℕ, ◌+◌, Bool, true, false, cond, not, ltb, Option, Some, None, ◌≤◌, List, [], ◌∷◌, length, take, drop, sym, refl, ap, ◌∙◌, inl, inr, one-add, take_all, arith}
+use Rattle.std.proofs.Common.{◌≡◌, ℕ, Bool, true, false, cond, not, ltb, Option, Some, None, ◌≤◌, List, [], ◌∷◌, length, take, sym, refl, ap, ◌∙◌, inl, inr, one-add, take_all, arith}
 use Rattle.std.specs.Option.{unwrap_or}
 use Rattle.std.proofs.lemmas.List.Sums.{prefix_len-le-length, prefix_len_is}
 use Rattle.std.proofs.lemmas.List.Elements.{All-get_or}
-use Rattle.std.specs.List.{position, position_or_len, prefix_len, take_while, filter, slice_split, onto_first, All}
+use Rattle.std.specs.List.{position, position_or_len, prefix_len, take_while, filter, slice_split, All}
 use Rattle.std.proofs.Math.Bool.{not-not}
-use Rattle.std.proofs.lemmas.Bool.{cases_Bool, cases_lt, cond-true, cond-false, ne_eqb, lt-ltb, le-ltb, not_from_true, not_from_false}
+use Rattle.std.proofs.lemmas.Bool.{cases_Bool, cases_lt, cond-true, cond-false, ne_eqb, lt-ltb, le-ltb}
 use Rattle.inventory.specs.Lines.{past_front, is_empty, gap, in_word, words, first_word, after_word, Split}
 
 -- the place of the first element that fails, or else the length, is how many pass from the front on
@@ -18,20 +18,6 @@ up_to_first p bs found n is_found is_n =
       | inl low ↦ let there = cond-true (ltb first (length bs)) (Some first) None (lt-ltb first (length bs) low) in cc
       | inr high ↦ let none = cond-false (ltb first (length bs)) (Some first) None (le-ltb first (length bs) high) in let all : first ≡ length bs = omega arith in cc
     ]
-
--- a front that goes on, and one that stops at once
-module _ (p : ℕ → Bool) (b : ℕ) (bs : List ℕ) where
-  pub front_on : p b ≡ true → take_while p (b ∷ bs) ≡ b ∷ take_while p bs
-  front_on yes_b = ap (λ n. take n (b ∷ bs)) (cond-true (p b) (1 + prefix_len p bs) 0 yes_b ∙ one-add (prefix_len p bs))
-
-  pub past_on : p b ≡ true → past_front p (b ∷ bs) ≡ past_front p bs
-  past_on yes_b = ap (λ n. drop n (b ∷ bs)) (cond-true (p b) (1 + prefix_len p bs) 0 yes_b ∙ one-add (prefix_len p bs))
-
-  pub front_stops : p b ≡ false → take_while p (b ∷ bs) ≡ []
-  front_stops no_b = ap (λ n. take n (b ∷ bs)) (cond-false (p b) (1 + prefix_len p bs) 0 no_b)
-
-  pub past_stops : p b ≡ false → past_front p (b ∷ bs) ≡ b ∷ bs
-  past_stops no_b = ap (λ n. drop n (b ∷ bs)) (cond-false (p b) (1 + prefix_len p bs) 0 no_b)
 
 -- the parts that are words
 abbrev pub some : List ℕ → Bool
@@ -49,35 +35,12 @@ later p (b ∷ bs) = slice_split p bs
 module _ (p : ℕ → Bool) where
   pub split-first : (bs : List ℕ) → slice_split p bs ≡ take_while (others p) bs ∷ later p (past_front (others p) bs)
   split-first [] = refl
-  split-first (b ∷ bs) =
-      elim (cases_Bool (p b)) [
-        | inl cut ↦
-            let cuts = cond-true (p b) ([] ∷ slice_split p bs) (onto_first b (slice_split p bs)) cut in
-            let front = front_stops (others p) b bs (not_from_true (p b) cut) in
-            let past = past_stops (others p) b bs (not_from_true (p b) cut) in
-            cc
-        | inr on ↦
-            let goes = cond-false (p b) ([] ∷ slice_split p bs) (onto_first b (slice_split p bs)) on in
-            let front = front_on (others p) b bs (not_from_false (p b) on) in
-            let past = past_on (others p) b bs (not_from_false (p b) on) in
-            let rest = split-first bs in
-            cc
-      ]
+  split-first (b ∷ bs) = elim (cases_Bool (p b)) [ inl cut ↦ rw cut | inr on ↦ rw (on, one-add, split-first bs) ]
 
   -- what stands after a front of others is empty or starts with an element that passes, so its first part is empty
-  pub later-words : (bs : List ℕ) → filter some (later p (past_front (others p) bs)) ≡ filter some (slice_split p (past_front (others p) bs))
+  later-words : (bs : List ℕ) → filter some (later p (past_front (others p) bs)) ≡ filter some (slice_split p (past_front (others p) bs))
   later-words [] = refl
-  later-words (b ∷ bs) =
-      elim (cases_Bool (p b)) [
-        | inl cut ↦
-            let cuts = cond-true (p b) ([] ∷ slice_split p bs) (onto_first b (slice_split p bs)) cut in
-            let past = past_stops (others p) b bs (not_from_true (p b) cut) in
-            cc
-        | inr on ↦
-            let past = past_on (others p) b bs (not_from_false (p b) on) in
-            let rest = later-words bs in
-            cc
-      ]
+  later-words (b ∷ bs) = elim (cases_Bool (p b)) [ inl cut ↦ rw (cut, cut) | inr on ↦ rw (on, one-add) (later-words bs) ]
 
   -- the first part that is not empty
   pub words-first : (bs : List ℕ) →
@@ -86,21 +49,10 @@ module _ (p : ℕ → Bool) where
   words-first [] = refl
   words-first (b ∷ bs) =
       elim (cases_Bool (p b)) [
-        | inl cut ↦
-            let cuts = cond-true (p b) ([] ∷ slice_split p bs) (onto_first b (slice_split p bs)) cut in
-            let past = past_on p b bs cut in
-            let rest = words-first bs in
-            cc
+        | inl cut ↦ rw (cut, one-add) (words-first bs)
         | inr on ↦
-            let word = take_while (others p) bs in
-            let rest = filter some (slice_split p (past_front (others p) (b ∷ bs))) in
-            let there : is_empty (b ∷ word) ≡ false = ne_eqb (length (b ∷ word)) 0 (λ z. omega arith) in
-            let front = front_on (others p) b bs (not_from_false (p b) on) in
-            ap (filter some) (split-first (b ∷ bs) ∙ ap (λ w. w ∷ later p (past_front (others p) (b ∷ bs))) front)
-            ∙ cond-true (some (b ∷ word)) ((b ∷ word) ∷ filter some (later p (past_front (others p) (b ∷ bs)))) (filter some (later p (past_front (others p) (b ∷ bs)))) (ap not there)
-            ∙ ap (λ ws. (b ∷ word) ∷ ws) (later-words (b ∷ bs)) ∙ sym (cond-false (is_empty (b ∷ word)) [] ((b ∷ word) ∷ rest) there)
-            ∙ ap (λ w. cond (is_empty w) [] (w ∷ rest)) (sym front)
-            ∙ ap (λ t. cond (is_empty (take_while (others p) t)) [] (take_while (others p) t ∷ filter some (slice_split p (past_front (others p) t)))) (sym (past_stops p b bs on))
+            let there : is_empty (b ∷ take_while (others p) bs) ≡ false = ne_eqb (length (b ∷ take_while (others p) bs)) 0 (λ z. omega arith) in
+            rw (on, split-first bs, one-add, later-words bs, on, there)
       ]
 
   pub front_all : (bs : List ℕ) → All (λ b. p b ≡ true) bs → take_while p bs ≡ bs
@@ -113,7 +65,7 @@ module _ (text found word rest : List ℕ) (is_found : found ≡ past_front gap 
   first_is = is_word ∙ ap (take_while in_word) is_found
 
   pub no_word : is_empty word ≡ true → words text ≡ []
-  no_word none = let first = words-first gap text in let there = ap is_empty (sym first_is) ∙ none in first ∙ cond-true (is_empty (first_word text)) [] (first_word text ∷ words (after_word text)) there
+  no_word none = words-first gap text ∙ cond-true (is_empty (first_word text)) [] (first_word text ∷ words (after_word text)) (ap is_empty (sym first_is) ∙ none)
 
   pub first_cut : is_empty word ≡ false → Split text word rest
   first_cut some_word =
