@@ -1,5 +1,5 @@
 -- That reading what was written for a row gives the row.
-use Rattle.std.proofs.Common.{◌≡◌, ℕ, ◌^◌, ◌<◌, ◌≤◌, true, false, not, List, [], length, ◌∷◌, ◌++◌, Some, Ok, Err, codes, IsUtf8, decimal, sym, refl, ap, ◌∙◌, inl, inr, arith, rules}
+use Rattle.std.proofs.Common.{◌≡◌, ℕ, ◌^◌, ◌<◌, ◌≤◌, true, false, List, [], length, ◌∷◌, ◌++◌, Some, Ok, Err, codes, IsUtf8, decimal, sym, refl, ap, ◌∙◌, inl, inr, arith, rules}
 use Rattle.std.specs.Result.{result_map_both}
 use Rattle.std.specs.Char.{is_ascii_digit}
 use Rattle.std.specs.List.{list_all, All, take_while, filter, slice_split}

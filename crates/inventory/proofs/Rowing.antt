@@ -6,6 +6,7 @@ use Rattle.std.proofs.Math.Bool.{not-not}
 use Rattle.std.proofs.lemmas.Grind.{get_or_after_one}
 use Rattle.inventory.specs.Lines.{gap, is_empty, words, number_in, label_in, row_by, row_of}
 use Rattle.inventory.specs.declared.fault.Field.TheVariants.{Address, Gigabytes, Day}
+use Rattle.inventory.specs.declared.fault.Fault.{Fault}
 use Rattle.inventory.specs.declared.fault.Fault.TheVariants.{ExtraWord}
 use Rattle.inventory.proofs.Cutting.{some}
 

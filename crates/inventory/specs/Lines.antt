@@ -65,7 +65,7 @@ pub record Split (text word rest : List ℕ) : Type 0 where
 abbrev pub words_left : Words → List (List ℕ)
 words_left it = words it.rest.now
 
--- a word as the number of a field; no word is the empty word
+-- a word as the number of a field; an empty one is missing
 abbrev pub number_in : Field → ℕ → List ℕ → Result ℕ Fault
 number_in field most word =
     cond (is_empty word) (Err (Missing field))

@@ -14,7 +14,7 @@ use kinds::rows::slot::SlotRow;
 // What a line says: a row, or nothing where it is empty or a comment alone.
 pub type Line = Result<Option<SlotRow>, Fault>;
 
-// A word of digits alone, as text.
+// A word as text, where every byte is a digit.
 fn digits(word: &[u8]) -> Option<&str>
     ensures { MatchOption result (all_ascii_digits word.now ≡ false) (λ text. (text.now ≡ word.now) × (all_ascii_digits word.now ≡ true)) }
 {
@@ -25,7 +25,7 @@ fn digits(word: &[u8]) -> Option<&str>
     }
 }
 
-// A word as the number of a field; an empty one stands for no word.
+// A word as the number of a field. An empty one is missing.
 pub fn number(word: &[u8], field: Field, most: u32) -> Result<u32, Fault>
     ensures value { result ≡ number_in field most word.now }
     ensures within { IfOk result (λ n. n ≤ most) }
@@ -40,7 +40,7 @@ pub fn number(word: &[u8], field: Field, most: u32) -> Result<u32, Fault>
     }
 }
 
-// A word as the number of a label; an empty one stands for no word.
+// A word as the number of a label. An empty one is missing.
 pub fn label_number(word: &[u8]) -> Result<u64, Fault>
     ensures value { result ≡ label_in word.now }
     ensures labelled { IfOk result (λ n. is_label n ≡ true) }
