@@ -4,7 +4,7 @@ use Rattle.std.specs.List.{All, slice_split}
 use Rattle.std.proofs.lemmas.List.Elements.{All-head, filter_passes}
 use Rattle.std.proofs.Math.Bool.{not-not}
 use Rattle.std.proofs.lemmas.Grind.{get_or_after_one}
-use Rattle.inventory.specs.Lines.{gap, is_empty, words, number_in, label_in, row_by, row_of}
+use Rattle.inventory.specs.Lines.{gap, is_empty, words, number_in, label_in, row_of}
 use Rattle.inventory.specs.declared.fault.Field.TheVariants.{Address, Gigabytes, Day}
 use Rattle.inventory.specs.declared.fault.Fault.{Fault}
 use Rattle.inventory.specs.declared.fault.Fault.TheVariants.{ExtraWord}
@@ -34,20 +34,17 @@ module _ (ts us vs ws xs : List (List ℕ)) (is_us : us ≡ drop 1 ts) (is_vs : 
   fifth : get_or ts 4 [] ≡ get_or xs 0 []
   fifth = sym (next ws xs 0 is_xs ∙ next vs ws 1 is_ws ∙ next us vs 2 is_vs ∙ next ts us 3 is_us)
 
-  row_is : row_of ts ≡ row_by (number_in Address 65535 (get_or ts 0 [])) (label_in (get_or ts 1 [])) (number_in Gigabytes 4294967295 (get_or ts 2 [])) (number_in Day 65535 (get_or ts 3 [])) (is_empty (get_or xs 0 []))
-  row_is = ap (λ w. row_by (number_in Address 65535 (get_or ts 0 [])) (label_in (get_or ts 1 [])) (number_in Gigabytes 4294967295 (get_or ts 2 [])) (number_in Day 65535 (get_or ts 3 [])) (is_empty w)) fifth
-
   pub whole : xs ≡ [] → Ok (record { label = n; gigabytes = y; address = x; day = z }) ≡ row_of ts
   whole none =
-      let last : is_empty (get_or xs 0 []) ≡ true = ap (λ vs. is_empty (get_or vs 0 [])) none in
-      cc (row_is, last, second, third, fourth)
+      let last : is_empty (get_or ts 4 []) ≡ true = ap is_empty fifth ∙ ap (λ vs. is_empty (get_or vs 0 [])) none in
+      rw (sym is_x, second, third, fourth, last)
 
   -- a call of `next` gave a fifth word; bs is the text that is left before it
   pub extra : (bs : List ℕ) (r : Option (Bor (List ℕ))) (ys : List (List ℕ)) → xs ≡ words bs → MatchOption r ((xs ≡ []) × (ys ≡ [])) (λ w. xs ≡ w.now ∷ ys) → true ≡ is_some r → Err ExtraWord ≡ row_of ts
   extra bs None ys is_bs h some_word = cc
   extra bs (Some w) ys is_bs h some_word =
-      let last : is_empty (get_or xs 0 []) ≡ false = ap (λ vs. is_empty (get_or vs 0 [])) h ∙ word_there bs w.now ys (sym is_bs ∙ h) in
-      cc (row_is, last, second, third, fourth)
+      let last : is_empty (get_or ts 4 []) ≡ false = ap is_empty fifth ∙ ap (λ vs. is_empty (get_or vs 0 [])) h ∙ word_there bs w.now ys (sym is_bs ∙ h) in
+      rw (sym is_x, second, third, fourth, last)
 
 -- the third or the fourth word is refused
 module _ (ts us vs : List (List ℕ)) (is_us : us ≡ drop 1 ts) (is_vs : vs ≡ drop 1 us) (x n : ℕ) (fault : Fault) (is_x : Ok x ≡ number_in Address 65535 (get_or ts 0 [])) (is_n : Ok n ≡ label_in (get_or us 0 [])) where
@@ -57,10 +54,10 @@ module _ (ts us vs : List (List ℕ)) (is_us : us ≡ drop 1 ts) (is_vs : vs ≡
   pub no_gigabytes : Err fault ≡ number_in Gigabytes 4294967295 (get_or vs 0 []) → Err fault ≡ row_of ts
   no_gigabytes is =
       let third : number_in Gigabytes 4294967295 (get_or ts 2 []) ≡ Err fault = ap (number_in Gigabytes 4294967295) (sym (next us vs 0 is_vs ∙ next ts us 1 is_us)) ∙ sym is in
-      cc (label_is, third)
+      rw (sym is_x, label_is, third)
 
   pub no_day : (ws : List (List ℕ)) (y : ℕ) → ws ≡ drop 1 vs → Ok y ≡ number_in Gigabytes 4294967295 (get_or vs 0 []) → Err fault ≡ number_in Day 65535 (get_or ws 0 []) → Err fault ≡ row_of ts
   no_day ws y is_ws is_y is =
       let third : number_in Gigabytes 4294967295 (get_or ts 2 []) ≡ Ok y = ap (number_in Gigabytes 4294967295) (sym (next us vs 0 is_vs ∙ next ts us 1 is_us)) ∙ sym is_y in
       let fourth : number_in Day 65535 (get_or ts 3 []) ≡ Err fault = ap (number_in Day 65535) (sym (next vs ws 0 is_ws ∙ next us vs 1 is_vs ∙ next ts us 2 is_us)) ∙ sym is in
-      cc (label_is, third, fourth)
+      rw (sym is_x, label_is, third, fourth)

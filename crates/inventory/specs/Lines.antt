@@ -75,17 +75,12 @@ number_in field most word =
 abbrev pub label_in : List ℕ → Result ℕ Fault
 label_in word = cond (is_empty word) (Err (Missing Label)) (result_map_both (λ n. n) (λ why. NotALabel why) (reading word))
 
--- the row that four answers make where no word is left, or the first fault from the left
-abbrev pub row_by : Result ℕ Fault → Result ℕ Fault → Result ℕ Fault → Result ℕ Fault → Bool → Result SlotRow Fault
-row_by address label gigabytes day last =
-    and_then address (λ a. and_then label (λ l. and_then gigabytes (λ g. and_then day (λ d.
-    cond last (Ok (record { label = l; gigabytes = g; address = a; day = d })) (Err ExtraWord)))))
-
--- the row that words write: address, label, gigabytes and day, and no fifth word
+-- the row that words write, or the first fault from the left: address, label, gigabytes and day, and no fifth word
 abbrev pub row_of : List (List ℕ) → Result SlotRow Fault
 row_of ws =
-    row_by (number_in Address 65535 (slice_index_or ws 0 [])) (label_in (slice_index_or ws 1 [])) (number_in Gigabytes 4294967295 (slice_index_or ws 2 [])) (number_in Day 65535 (slice_index_or ws 3 []))
-    (is_empty (slice_index_or ws 4 []))
+    and_then (number_in Address 65535 (slice_index_or ws 0 [])) (λ a. and_then (label_in (slice_index_or ws 1 [])) (λ l.
+    and_then (number_in Gigabytes 4294967295 (slice_index_or ws 2 [])) (λ g. and_then (number_in Day 65535 (slice_index_or ws 3 [])) (λ d.
+    cond (is_empty (slice_index_or ws 4 [])) (Ok (record { label = l; gigabytes = g; address = a; day = d })) (Err ExtraWord)))))
 
 -- what a line says: a row, nothing where it has no word, or why it is refused
 abbrev pub Said : Type 0

@@ -54,8 +54,7 @@ impl fmt::Display for Note {
     ghost output = { λ x. Some (note_text x) };
 
     fn fmt<W: fmt::Write>(&self, f: &mut fmt::Formatter<W>) -> fmt::Result {
-        let line = self.line;
-        let remark = self.remark;
+        let Note { line, remark } = self;
         write!(f, "line {line}: {remark}")
     }
 }
