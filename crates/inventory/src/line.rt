@@ -53,30 +53,32 @@ pub fn label_number(word: &[u8]) -> Result<u64, Fault>
     Ok(Label::try_from(word)?.into())
 }
 
-// The next word, which is for a field.
-fn next_word<'a>(words: &mut Words<'a>, field: Field) -> Result<&'a [u8], Fault>
-    ensures word { MatchResult result (λ word. words_left words.old ≡ word.now ∷ words_left words.new) (λ fault. (words_left words.old ≡ []) × (fault ≡ Missing field)) }
-    ensures rest { words_left words.new ≡ drop 1 (words_left words.old) }
-{
-    words.next().ok_or(Fault::Missing { field })
-}
+impl<'a> Words<'a> {
+    // The next word, which is for a field.
+    fn next_word(&mut self, field: Field) -> Result<&'a [u8], Fault>
+        ensures word { MatchResult result (λ word. words_left self.old ≡ word.now ∷ words_left self.new) (λ fault. (words_left self.old ≡ []) × (fault ≡ Missing field)) }
+        ensures rest { words_left self.new ≡ drop 1 (words_left self.old) }
+    {
+        self.next().ok_or(Fault::Missing { field })
+    }
 
-// The next word as the number of a field.
-fn next_number(words: &mut Words, field: Field, most: u32) -> Result<u32, Fault>
-    ensures value { result ≡ number_in field most (slice_index_or (words_left words.old) 0 []) }
-    ensures within { IfOk result (λ n. n ≤ most) }
-    ensures rest { words_left words.new ≡ drop 1 (words_left words.old) }
-{
-    number(next_word(words, field)?, field, most)
-}
+    // The next word as the number of a field.
+    fn next_number(&mut self, field: Field, most: u32) -> Result<u32, Fault>
+        ensures value { result ≡ number_in field most (slice_index_or (words_left self.old) 0 []) }
+        ensures within { IfOk result (λ n. n ≤ most) }
+        ensures rest { words_left self.new ≡ drop 1 (words_left self.old) }
+    {
+        number(self.next_word(field)?, field, most)
+    }
 
-// The next word as the number of a label.
-fn next_label(words: &mut Words) -> Result<u64, Fault>
-    ensures value { result ≡ label_in (slice_index_or (words_left words.old) 0 []) }
-    ensures labelled { IfOk result (λ n. is_label n ≡ true) }
-    ensures rest { words_left words.new ≡ drop 1 (words_left words.old) }
-{
-    label_number(next_word(words, Field::Label)?)
+    // The next word as the number of a label.
+    fn next_label(&mut self) -> Result<u64, Fault>
+        ensures value { result ≡ label_in (slice_index_or (words_left self.old) 0 []) }
+        ensures labelled { IfOk result (λ n. is_label n ≡ true) }
+        ensures rest { words_left self.new ≡ drop 1 (words_left self.old) }
+    {
+        label_number(self.next_word(Field::Label)?)
+    }
 }
 
 // The row that the words of a text write, or the first fault. A comment is cut off before.
@@ -85,10 +87,10 @@ pub fn read_row(text: &[u8]) -> Result<SlotRow, Fault>
     ensures labelled { IfOk result (λ row. is_label row.label ≡ true) }
 {
     let mut words = Words::new(text);
-    let address = next_number(&mut words, Field::Address, 65535)?;
-    let label = next_label(&mut words)?;
-    let gigabytes = next_number(&mut words, Field::Gigabytes, 4294967295)?;
-    let day = next_number(&mut words, Field::Day, 65535)?;
+    let address = words.next_number(Field::Address, 65535)?;
+    let label = words.next_label()?;
+    let gigabytes = words.next_number(Field::Gigabytes, 4294967295)?;
+    let day = words.next_number(Field::Day, 65535)?;
     if words.next().is_some() {
         return Err(Fault::ExtraWord);
     }

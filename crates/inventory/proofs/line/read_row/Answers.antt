@@ -6,17 +6,17 @@ use Rattle.inventory.proofs.line.read_row.Goals as goal
 
 pub returns-then-is_some-clause-value : goal.returns-then-is_some-clause-value
 returns-then-is_some-clause-value c =
-    extra (words_left c.new-words.result) (words_left c.next_number.new.words) (words_left c.next_label.new.words) (words_left c.next_number-2.new.words) (words_left c.next_number-3.new.words)
+    extra (words_left c.new-words.result) (words_left c.next_number.new.self) (words_left c.next_label.new.self) (words_left c.next_number-2.new.self) (words_left c.next_number-3.new.self)
     c.next_number.ensures.rest c.next_label.ensures.rest c.next_number-2.ensures.rest c.next_number-3.ensures.rest
     c.in_ok-address.address c.in_ok-label.label c.in_ok-gigabytes.gigabytes c.in_ok-day.day
     c.in_ok-address.ensures.value c.in_ok-label.ensures.value c.in_ok-gigabytes.ensures.value c.in_ok-day.ensures.value
-    c.next_number-3.new.words.rest.now c.next.result (words_left c.next.new.self) refl c.next.ensures.steps c.if-is_some.ensures
+    c.next_number-3.new.self.rest.now c.next.result (words_left c.next.new.self) refl c.next.ensures.steps c.if-is_some.ensures
     ∙ ap row_of c.new-words.ensures
 
 pub returns-clause-value : goal.returns-clause-value
 returns-clause-value c =
-    let none : words_left c.next_number-3.new.words ≡ [] = search rules in
-    whole (words_left c.new-words.result) (words_left c.next_number.new.words) (words_left c.next_label.new.words) (words_left c.next_number-2.new.words) (words_left c.next_number-3.new.words)
+    let none : words_left c.next_number-3.new.self ≡ [] = search rules in
+    whole (words_left c.new-words.result) (words_left c.next_number.new.self) (words_left c.next_label.new.self) (words_left c.next_number-2.new.self) (words_left c.next_number-3.new.self)
     c.next_number.ensures.rest c.next_label.ensures.rest c.next_number-2.ensures.rest c.next_number-3.ensures.rest
     c.in_ok-address.address c.in_ok-label.label c.in_ok-gigabytes.gigabytes c.in_ok-day.day
     c.in_ok-address.ensures.value c.in_ok-label.ensures.value c.in_ok-gigabytes.ensures.value c.in_ok-day.ensures.value none
@@ -25,14 +25,14 @@ returns-clause-value c =
 pub returns-in_err-gigabytes-clause-value : goal.returns-in_err-gigabytes-clause-value
 returns-in_err-gigabytes-clause-value c =
     let e = err_from_is_err_and c.from_residual-in_err-gigabytes.result c.from_residual-in_err-gigabytes.ensures.1 in
-    rw (e.1, e.2) (no_gigabytes (words_left c.new-words.result) (words_left c.next_number.new.words) (words_left c.next_label.new.words) c.next_number.ensures.rest c.next_label.ensures.rest
+    rw (e.1, e.2) (no_gigabytes (words_left c.new-words.result) (words_left c.next_number.new.self) (words_left c.next_label.new.self) c.next_number.ensures.rest c.next_label.ensures.rest
     c.in_ok-address.address c.in_ok-label.label c.in_err-gigabytes.field-0.0 c.in_ok-address.ensures.value c.in_ok-label.ensures.value c.in_err-gigabytes.ensures.value)
     ∙ ap row_of c.new-words.ensures
 
 pub returns-in_err-day-clause-value : goal.returns-in_err-day-clause-value
 returns-in_err-day-clause-value c =
     let e = err_from_is_err_and c.from_residual-in_err-day.result c.from_residual-in_err-day.ensures.1 in
-    rw (e.1, e.2) (no_day (words_left c.new-words.result) (words_left c.next_number.new.words) (words_left c.next_label.new.words) c.next_number.ensures.rest c.next_label.ensures.rest
+    rw (e.1, e.2) (no_day (words_left c.new-words.result) (words_left c.next_number.new.self) (words_left c.next_label.new.self) c.next_number.ensures.rest c.next_label.ensures.rest
     c.in_ok-address.address c.in_ok-label.label c.in_err-day.field-0.0 c.in_ok-address.ensures.value c.in_ok-label.ensures.value
-    (words_left c.next_number-2.new.words) c.in_ok-gigabytes.gigabytes c.next_number-2.ensures.rest c.in_ok-gigabytes.ensures.value c.in_err-day.ensures.value)
+    (words_left c.next_number-2.new.self) c.in_ok-gigabytes.gigabytes c.next_number-2.ensures.rest c.in_ok-gigabytes.ensures.value c.in_err-day.ensures.value)
     ∙ ap row_of c.new-words.ensures
