@@ -90,6 +90,13 @@ fn wrong_numbers(rt: HostRuntime) {
             field: Field::Gigabytes,
         },
     );
+    refuses(
+        &rt,
+        b"10 A00001L8 +1 300",
+        Fault::NotANumber {
+            field: Field::Gigabytes,
+        },
+    );
 }
 
 #[test]
