@@ -10,22 +10,22 @@ use std::test::Fail;
 // The label A00001L8.
 const LABEL: u64 = 0x4130_3030_3031_4c38;
 
-// What a line says, with the row's fields, since `SlotRow` has no `==`.
-fn told(line: &[u8]) -> Result<Option<(u16, u64, u32, u16)>, Fault> {
-    let row = read_line(line)?;
-    Ok(row.map(|row| (row.address, row.label, row.gigabytes, row.day)))
-}
-
 fn refuses(rt: &impl Abort, line: &[u8], fault: Fault) {
-    assert_eq!(rt; told(line), Err(fault));
+    assert_eq!(rt; read_line(line), Err(fault));
 }
 
 fn gives(rt: &impl Abort, line: &[u8], address: u16, gigabytes: u32, day: u16) {
-    assert_eq!(rt; told(line), Ok(Some((address, LABEL, gigabytes, day))));
+    let row = SlotRow {
+        label: LABEL,
+        gigabytes,
+        address,
+        day,
+    };
+    assert_eq!(rt; read_line(line), Ok(Some(row)));
 }
 
 fn says_nothing(rt: &impl Abort, line: &[u8]) {
-    assert_eq!(rt; told(line), Ok(None));
+    assert_eq!(rt; read_line(line), Ok(None));
 }
 
 #[test]
