@@ -1,7 +1,10 @@
 -- Steps in the ring, what is available, and one cell taken.
-use Rattle.std.proofs.Common.{◌≡◌, ℕ, ◌+◌, ◌-◌, ◌<◌, ◌≤◌, eqb, ltb, leb, List, length, sym, ap, ◌∙◌, subst, inl, inr, arith}
+use Rattle.std.proofs.Common.{◌≡◌, ℕ, ◌+◌, ◌-◌, ◌<◌, ◌≤◌, eqb, ltb, leb, List, length, get_or, drop, sym, ap, ◌∙◌, subst, inl, inr, arith}
 use Rattle.std.proofs.lemmas.Bool.{cases_eq, cases_lt, cases_Bool, and_parts, and_from, eq-eqb, eqb-true, le-leb, leb-true, lt-ltb, le-ltb, cond-true, cond-false}
+use Rattle.std.proofs.lemmas.List.{get_or-drop, length-drop}
+use Rattle.std.specs.List.{AllWithin, HoldsAt}
 use Rattle.links.specs.declared.link.Link.{Link}
+use Rattle.links.specs.Fields.{refs_in, blank}
 use Rattle.links.specs.declared.ring.Cursor.{Cursor}
 use Rattle.links.specs.declared.ring.Taken.{Taken}
 use Rattle.links.specs.Cells.{refs_of}
@@ -9,6 +12,7 @@ use Rattle.links.specs.Counted.{one, is_live, live_count}
 use Rattle.links.specs.Ring.{steps, OnRing, Unused, Available, is_available, avail_count, Begun, Took, RoomIsLeft}
 use Rattle.links.proofs.Counting.{life_if_live, life_if_unused}
 use Rattle.links.proofs.Sums.{one_yes, one_no, one_small, sum_but, sum_add, sum_ones, sum_most, sum_some}
+use Rattle.links.proofs.Tables.{at_is}
 
 pub steps_up : (n from c : ℕ) → from < c → steps n from c ≡ c - from
 unfolding steps
@@ -166,3 +170,26 @@ module _ (ls : List Link) (k : Cursor) (ring : OnRing ls k) (some : 0 < avail_co
             | inl h ↦ absurd (gone (untested ls t.cursor t.cell was.unused.low was.unused.high h))
             | inr h ↦ omega arith
           ]
+
+-- the records above place `from`, which are those of the cells above `from`
+module _ (ls : List Link) (from : ℕ) where
+  above : (c : ℕ) → from < c → refs_of ls c ≡ refs_in (get_or (drop from ls) (c - 1 - from) blank)
+  above c h =
+      let e : from + (c - 1 - from) ≡ c - 1 = omega arith in
+      ap refs_in (at_is ls c (omega arith) ∙ ap (λ k. get_or ls k blank) (sym e) ∙ sym (get_or-drop from ls (c - 1 - from) blank))
+
+  pub past_used : (n : ℕ) → AllWithin (λ r. 0 < refs_in r) (drop from ls) 0 n → (c : ℕ) → Unused ls c → from < c → from + n < c
+  past_used n used c u h =
+      elim (cases_lt (from + n) c) [
+        | inl p ↦ p
+        | inr q ↦ absurd (omega (arith, above c h, u.refs, used (c - 1 - from) blank (omega arith) (omega arith)))
+      ]
+
+  pub unused_above : (i c : ℕ) → c ≡ from + i + 1 → i < length (drop from ls) → HoldsAt (λ r. refs_in r ≡ 0) (drop from ls) i → Unused ls c
+  unused_above i c is h none =
+      let e : c - 1 - from ≡ i = omega arith in
+      record {
+        low = omega arith;
+        high = omega (arith, length-drop from ls);
+        refs = above c (omega arith) ∙ ap (λ k. refs_in (get_or (drop from ls) k blank)) e ∙ none blank;
+      }

@@ -1,5 +1,5 @@
 // The cells as a ring. A call takes the unused cells that lie ahead of a cursor, each at most once.
-ghost use Rattle.std.specs.Prelude.{◌≡◌, ℕ, ◌-◌, ◌<◌, ◌≤◌, length};
+ghost use Rattle.std.specs.Prelude.{◌≡◌, ℕ, ◌-◌, ◌<◌, ◌≤◌, length, IfSome, IfNone};
 ghost use Rattle.links.specs.Ring.{OnRing, Unused, steps, avail_count, Begun, Took};
 
 use crate::link::Link;
@@ -77,6 +77,7 @@ pub fn take(links: &[Link], cursor: Cursor) -> Taken
 }
 
 // The steps upward from a cell to another in a ring of so many cells.
+#[tactic(auto, unfolding(crate::specs::Ring::steps))]
 fn steps_to(cells: usize, from: usize, cell: usize) -> usize
     requires from { from ≤ cells }
     requires cell { cell ≤ cells }
@@ -91,30 +92,26 @@ fn steps_to(cells: usize, from: usize, cell: usize) -> usize
 }
 
 // The next unused cell up the ring. There has to be one.
+#[tactic(auto, unfolding(crate::specs::Ring::steps))]
 fn next_unused(links: &[Link], from: usize) -> usize
     requires from { from ≤ length links.now }
     requires some { (c : ℕ) × Unused links.now c }
     ensures unused { Unused links.now result }
     ensures next { (c : ℕ) → Unused links.now c → steps (length links.now) from result ≤ steps (length links.now) from c }
 {
-    let above = lowest_unused(links, from);
-    if above <= links.len() {
-        above
-    } else {
-        lowest_unused(links, 0)
+    match lowest_unused(links, from) {
+        Some(above) => above,
+        None => lowest_unused(links, 0).unwrap(),
     }
 }
 
-// The lowest unused cell above another, or the number past the last cell.
-fn lowest_unused(links: &[Link], from: usize) -> usize
+// The lowest unused cell above another.
+fn lowest_unused(links: &[Link], from: usize) -> Option<usize>
     requires { from ≤ length links.now }
-    ensures low { from < result }
-    ensures unused { result ≤ length links.now → Unused links.now result }
-    ensures lowest { (c : ℕ) → Unused links.now c → from < c → result ≤ c }
+    ensures some { IfSome result (λ c. (from < c) × Unused links.now c) }
+    ensures lowest { IfSome result (λ c. (d : ℕ) → Unused links.now d → from < d → c ≤ d) }
+    ensures none { IfNone result ((d : ℕ) → Unused links.now d → d ≤ from) }
 {
-    let mut cell = from + 1;
-    while cell <= links.len() && links[cell - 1].refs() > 0 {
-        cell += 1;
-    }
-    cell
+    let skipped = links[from..].iter().position(|link| link.refs() == 0)?;
+    Some(from + skipped + 1)
 }

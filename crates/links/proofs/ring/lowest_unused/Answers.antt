@@ -1,29 +1,30 @@
-use Rattle.std.proofs.Common.{ap, inl, inr, arith}
-use Rattle.std.proofs.lemmas.Bool.{cases_eq}
-use Rattle.links.specs.Cells.{refs_of}
+use Rattle.std.proofs.Common.{◌≡◌, ◌<◌, rules, tests, drop, ◌∙◌, inl, inr, arith}
+use Rattle.std.proofs.lemmas.Bool.{cases_lt}
+use Rattle.std.proofs.lemmas.Iterator.{IsFirst-from_position, YieldsList-from_slice}
+use Rattle.std.proofs.lemmas.List.{length-drop, take_rest}
+use Rattle.std.proofs.option.Match.{if_some, if_none}
 use Rattle.links.specs.Fields.{refs_in}
-use Rattle.links.proofs.Tables.{at_is}
+use Rattle.links.proofs.Rings.{past_used, unused_above}
 use Rattle.links.proofs.ring.lowest_unused.Goals as goal
 
-pub loop-cell-preserved : goal.loop-cell-preserved
-loop-cell-preserved c =
-    let here = ap refs_in (at_is c.args.links.now c.loop-cell.cell (omega arith)) in (
-      omega arith,
-      omega arith,
-      λ d u h. elim (cases_eq d c.loop-cell.cell) [
-        | inl e ↦ absurd (omega (arith, u.refs, ap (refs_of c.args.links.now) e))
-        | inr ne ↦ omega (arith, c.loop-cell.invariant.2 d u h, ne)
-      ],
-    )
+pub returns-in_err-skipped-clause-none : goal.returns-in_err-skipped-clause-none
+returns-in_err-skipped-clause-none c =
+    let ls = c.args.links.now in
+    let from = c.args.from in
+    let none = if_none _ _ c.in_err-skipped.was (IsFirst-from_position _ _ _ (λ r. refs_in r ≡ 0) (λ r. 0 < refs_in r) c.position.ensures.ran (YieldsList-from_slice (drop from ls) (c.iter.ensures.rest ∙ take_rest ls from)) (λ x q k. search (rules, tests)) (λ x q k. search (rules, tests))) in
+    rw c.from_residual.ensures
+    (λ d u. elim (cases_lt from d) [
+      | inl h ↦ absurd (omega (arith, u.high, length-drop from ls, past_used ls from _ none d u h))
+      | inr h ↦ h
+    ])
 
-pub returns-else-refs-gt0 : goal.returns-else-refs-gt0
-returns-else-refs-gt0 c =
+pub returns : goal.returns
+returns c =
+    let ls = c.args.links.now in
+    let from = c.args.from in
+    let first = if_some _ _ _ c.in_ok-skipped.was (IsFirst-from_position _ _ _ (λ r. refs_in r ≡ 0) (λ r. 0 < refs_in r) c.position.ensures.ran (YieldsList-from_slice (drop from ls) (c.iter.ensures.rest ∙ take_rest ls from)) (λ x q k. search (rules, tests)) (λ x q k. search (rules, tests))) in
     record {
-      low = c.loop-cell.invariant.0;
-      unused = λ h. record {
-        low = omega arith;
-        high = h;
-        refs = omega (arith, ap refs_in (at_is c.args.links.now c.loop-cell.cell (omega arith)));
-      };
-      lowest = c.loop-cell.invariant.2;
+      some = (omega arith, unused_above ls from c.in_ok-skipped.skipped _ (omega arith) first.0 first.1);
+      lowest = λ d u h. omega (arith, past_used ls from c.in_ok-skipped.skipped first.2 d u h);
+      none = tt;
     }
