@@ -6,7 +6,6 @@ use Rattle.std.specs.List.{AllWithin, HoldsAt}
 use Rattle.links.specs.declared.link.Link.{Link}
 use Rattle.links.specs.Fields.{refs_in, blank}
 use Rattle.links.specs.declared.ring.Cursor.{Cursor}
-use Rattle.links.specs.declared.ring.Taken.{Taken}
 use Rattle.links.specs.Cells.{refs_of}
 use Rattle.links.specs.Counted.{one, is_live, live_count}
 use Rattle.links.specs.Ring.{steps, OnRing, Unused, Available, is_available, avail_count, Begun, Took, RoomIsLeft}
@@ -131,43 +130,43 @@ module _ (ls : List Link) (k : Cursor) (ring : OnRing ls k) (some : 0 < avail_co
   pub steps_left : steps (length ls) k.last cell ≤ k.left
   steps_left = let (c, a) = some_unused ls k some in omega (arith, next c a.unused, a.ahead)
 
-  pub took : (t : Taken) → t.cell ≡ cell → t.cursor.last ≡ cell → t.cursor.left ≡ k.left - steps (length ls) k.last cell → Took ls k t
+  pub took : (j : Cursor) → j.last ≡ cell → j.left ≡ k.left - steps (length ls) k.last cell → Took ls k j cell
   unfolding avail_count
-  took t is last left =
-      let was : Available ls k t.cell = rw is (record { unused = unused; ahead = steps_left }) in
-      let gone : Available ls t.cursor t.cell → ⊥ = λ a.
-      omega (arith, a.ahead, ap (λ x. steps (length ls) x t.cell) last, ap (λ x. steps (length ls) cell x) is, steps_round (length ls) cell cell (omega arith), steps_low (length ls) k.last ring.last cell unused.low, ring.left, unused.high) in
-      let on : (c : ℕ) → (c ≡ cell → ⊥) → (u : Unused ls c) → steps (length ls) k.last cell + steps (length ls) t.cursor.last c ≡ steps (length ls) k.last c = λ c ne u.
+  took j last left =
+      let was : Available ls k cell = record { unused = unused; ahead = steps_left } in
+      let gone : Available ls j cell → ⊥ = λ a.
+      omega (arith, a.ahead, ap (λ x. steps (length ls) x cell) last, steps_round (length ls) cell cell (omega arith), steps_low (length ls) k.last ring.last cell unused.low, ring.left, unused.high) in
+      let on : (c : ℕ) → (c ≡ cell → ⊥) → (u : Unused ls c) → steps (length ls) k.last cell + steps (length ls) j.last c ≡ steps (length ls) k.last c = λ c ne u.
       rw last (steps_by (length ls) k.last ring.last cell c unused.low unused.high u.low u.high ne (next c u)) in
-      let stays : (c : ℕ) → (c ≡ t.cell → ⊥) → Available ls k c → Available ls t.cursor c = λ c ne a.
-      record { unused = a.unused; ahead = omega (arith, a.ahead, on c (λ e. ne (e ∙ sym is)) a.unused, left) } in
-      let back : (c : ℕ) → Available ls t.cursor c → Available ls k c = λ c a.
-      elim (cases_eq c t.cell) [
+      let stays : (c : ℕ) → (c ≡ cell → ⊥) → Available ls k c → Available ls j c = λ c ne a.
+      record { unused = a.unused; ahead = omega (arith, a.ahead, on c ne a.unused, left) } in
+      let back : (c : ℕ) → Available ls j c → Available ls k c = λ c a.
+      elim (cases_eq c cell) [
         | inl e ↦ absurd (gone (rw e at a))
-        | inr ne ↦ record { unused = a.unused; ahead = omega (arith, a.ahead, on c (λ e. ne (e ∙ sym is)) a.unused, left, steps_left) }
+        | inr ne ↦ record { unused = a.unused; ahead = omega (arith, a.ahead, on c ne a.unused, left, steps_left) }
       ] in
       record {
         ring = record { last = omega (arith, last, unused.high); left = omega (arith, left, ring.left) };
         was = was;
-        next = λ c a. rw is (next c a.unused);
-        passed = last ∙ sym is;
-        spent = rw is (omega (arith, left, steps_left));
+        next = λ c a. next c a.unused;
+        passed = last;
+        spent = omega (arith, left, steps_left);
         gone = gone;
         stays = stays;
         back = back;
         count = omega (
           arith,
-          sum_but (length ls) (λ c. one (is_available ls k c)) (λ c. one (is_available ls t.cursor c)) t.cell was.unused.low was.unused.high
-              (λ c p q ne. alike ls ls k t.cursor c p q q (stays c ne) (back c)),
-          tested ls k t.cell was,
-          passed t gone was,
+          sum_but (length ls) (λ c. one (is_available ls k c)) (λ c. one (is_available ls j c)) cell unused.low unused.high
+              (λ c p q ne. alike ls ls k j c p q q (stays c ne) (back c)),
+          tested ls k cell was,
+          passed j gone,
         );
       }
     where
-      passed : (t : Taken) → (Available ls t.cursor t.cell → ⊥) → Available ls k t.cell → one (is_available ls t.cursor t.cell) ≡ 0
-      passed t gone was =
-          elim (cases_lt 0 (one (is_available ls t.cursor t.cell))) [
-            | inl h ↦ absurd (gone (untested ls t.cursor t.cell was.unused.low was.unused.high h))
+      passed : (j : Cursor) → (Available ls j cell → ⊥) → one (is_available ls j cell) ≡ 0
+      passed j gone =
+          elim (cases_lt 0 (one (is_available ls j cell))) [
+            | inl h ↦ absurd (gone (untested ls j cell unused.low unused.high h))
             | inr h ↦ omega arith
           ]
 

@@ -2,7 +2,6 @@
 use Rattle.std.proofs.Common.{◌≡◌, ℕ, ◌+◌, ◌≤◌, List, sym, refl, ap, ◌∙◌, inl, inr, arith}
 use Rattle.links.specs.declared.link.Link.{Link}
 use Rattle.links.specs.declared.ring.Cursor.{Cursor}
-use Rattle.links.specs.declared.ring.Taken.{Taken}
 use Rattle.links.specs.Building.{Settled, Step, BuildingKeepsTrees}
 use Rattle.links.specs.Cells.{levels_of, refs_of, Kept}
 use Rattle.links.specs.Changes.{Built}
@@ -26,40 +25,40 @@ counts ls ms k n kept up s =
       apart = λ c i a. s.apart c i (carried ms ls k c (sym kept.len) (omega (arith, up c, a.unused.refs)) a);
     }
 
-module _ (ls ms : List Link) (k : Cursor) (t : Taken) (l r : ℕ) (step : Step ls ms k t l r) where
-  unused : refs_of ls t.cell ≡ 0
+module _ (ls ms : List Link) (k j : Cursor) (cell l r : ℕ) (step : Step ls ms k j cell l r) where
+  unused : refs_of ls cell ≡ 0
   unused = step.took.was.unused.refs
 
-  made : Built ls ms t.cell l r
-  made = built ls ms t.cell l r step.wrote unused step.took.was.unused.low step.took.was.unused.high
+  made : Built ls ms cell l r
+  made = built ls ms cell l r step.wrote unused step.took.was.unused.low step.took.was.unused.high
 
   -- what is available after the step was so before
-  before : (c : ℕ) → Available ms t.cursor c → Available ls t.cursor c
-  before c a = carried ms ls t.cursor c (sym step.wrote.len) (omega (arith, same_refs ls ms t.cell l r step.wrote unused c, a.unused.refs)) a
+  before : (c : ℕ) → Available ms j c → Available ls j c
+  before c a = carried ms ls j c (sym step.wrote.len) (omega (arith, same_refs ls ms cell l r step.wrote unused c, a.unused.refs)) a
 
   module _ (n : ℕ) (s : Settled ls k n) where
-    other : Among t.cell s.tree → ⊥
-    other a = s.apart t.cell a step.took.was
+    other : Among cell s.tree → ⊥
+    other a = s.apart cell a step.took.was
 
-    still_apart : (c : ℕ) → Among c s.tree → Available ms t.cursor c → ⊥
+    still_apart : (c : ℕ) → Among c s.tree → Available ms j c → ⊥
     still_apart c i a = s.apart c i (step.took.back c (before c a))
 
-    pub stays : Settled ms t.cursor n
+    pub stays : Settled ms j n
     stays =
         record { tree = s.tree; stands = made.stays n s.tree other s.stands; balanced = s.balanced; apart = still_apart }
 
-  pub settles : Settled ls k l → Settled ls k r → levels_of ls l ≤ levels_of ls r + 1 → levels_of ls r ≤ levels_of ls l + 1 → Settled ms t.cursor t.cell
+  pub settles : Settled ls k l → Settled ls k r → levels_of ls l ≤ levels_of ls r + 1 → levels_of ls r ≤ levels_of ls l + 1 → Settled ms j cell
   settles a b left_low right_low =
       let left = levels_told ls l a.tree a.stands in
       let right = levels_told ls r b.tree b.stands in
       record {
-        tree = fork t.cell a.tree b.tree;
+        tree = fork cell a.tree b.tree;
         stands = made.stands a.tree b.tree (other l a) (other r b) a.stands b.stands;
         balanced = record { left = a.balanced; right = b.balanced; left_low = omega arith; right_low = omega arith };
-        apart = λ c i v. elim (among_cases t.cell a.tree b.tree c i) [
+        apart = λ c i v. elim (among_cases cell a.tree b.tree c i) [
           | inl e ↦ step.took.gone (rw e at (before c v))
-          | inr (inl j) ↦ still_apart l a c j v
-          | inr (inr j) ↦ still_apart r b c j v
+          | inr (inl h) ↦ still_apart l a c h v
+          | inr (inr h) ↦ still_apart r b c h v
         ];
       }
 
@@ -70,11 +69,11 @@ building =
       live = λ ls rs k c held r.
           let t = live_tree ls rs held c (reached_live ls rs held c r) in
           record { tree = t.tree; stands = t.stands; balanced = t.balanced; apart = λ d i a. omega (arith, t.live d i, a.unused.refs) };
-      stays = λ ls ms k t l r n step s. stays ls ms k t l r step n s;
+      stays = λ ls ms k j c l r n step s. stays ls ms k j c l r step n s;
       settles = settles;
-      uses = λ ls ms k t l r step. (
+      uses = λ ls ms k j c l r step. (
         record { last = omega (arith, step.took.ring.last, step.wrote.len); left = omega (arith, step.took.ring.left, step.wrote.len) },
-        step.took.count ∙ ap (λ x. 1 + x) (sym ((made ls ms k t l r step).avail_cells t.cursor)),
+        step.took.count ∙ ap (λ x. 1 + x) (sym ((made ls ms k j c l r step).avail_cells j)),
       );
       counts = counts;
     }

@@ -2,7 +2,6 @@
 use Rattle.std.specs.Prelude.{◌≡◌, ℕ, ◌+◌, ◌-◌, ◌<◌, ◌≤◌, Bool, cond, ◌&&◌, List, length, ◌==◌, ◌≢◌, nat_le, nat_lt}
 use Rattle.links.specs.declared.link.Link.{Link}
 use Rattle.links.specs.declared.ring.Cursor.{Cursor}
-use Rattle.links.specs.declared.ring.Taken.{Taken}
 use Rattle.links.specs.Cells.{refs_of, sum_to}
 use Rattle.links.specs.Counted.{one, live_count}
 
@@ -41,17 +40,18 @@ pub record Begun (ls : List Link) (k : Cursor) : Type 0 where
   pub all : (c : ℕ) → Unused ls c → Available ls k c
   pub count : avail_count ls k + live_count ls ≡ length ls
 
--- one cell was taken: it was the next available one and is not available any more, and every other cell is available exactly where it was
-pub record Took (ls : List Link) (k : Cursor) (t : Taken) : Type 0 where
-  pub ring : OnRing ls t.cursor
-  pub was : Available ls k t.cell
-  pub next : (c : ℕ) → Available ls k c → steps (length ls) k.last t.cell ≤ steps (length ls) k.last c
-  pub passed : t.cursor.last ≡ t.cell
-  pub spent : t.cursor.left + steps (length ls) k.last t.cell ≡ k.left
-  pub gone : Available ls t.cursor t.cell → ⊥
-  pub stays : (c : ℕ) → (c ≢ t.cell) → Available ls k c → Available ls t.cursor c
-  pub back : (c : ℕ) → Available ls t.cursor c → Available ls k c
-  pub count : avail_count ls k ≡ 1 + avail_count ls t.cursor
+-- cell c was taken, and the cursor went from k to j: c was the next available cell and is not available any more, and every other cell is available
+-- exactly where it was
+pub record Took (ls : List Link) (k j : Cursor) (c : ℕ) : Type 0 where
+  pub ring : OnRing ls j
+  pub was : Available ls k c
+  pub next : (d : ℕ) → Available ls k d → steps (length ls) k.last c ≤ steps (length ls) k.last d
+  pub passed : j.last ≡ c
+  pub spent : j.left + steps (length ls) k.last c ≡ k.left
+  pub gone : Available ls j c → ⊥
+  pub stays : (d : ℕ) → (d ≢ c) → Available ls k d → Available ls j d
+  pub back : (d : ℕ) → Available ls j d → Available ls k d
+  pub count : avail_count ls k ≡ 1 + avail_count ls j
 
 -- whatever the cursor, live and available cells are no more than there are
 abbrev pub RoomIsLeft : Type 0

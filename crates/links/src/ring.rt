@@ -11,13 +11,6 @@ pub struct Cursor {
     left: u16,
 }
 
-// A cell, and the cursor that has passed it.
-#[derive(Clone, Copy)]
-pub struct Taken {
-    pub cell: u16,
-    pub cursor: Cursor,
-}
-
 impl Cursor {
     // A cursor before the first cell. It may pass none until a call begins.
     pub fn new() -> Cursor
@@ -27,61 +20,45 @@ impl Cursor {
         Cursor { last: 0, left: 0 }
     }
 
-    // This cursor with so many cells to pass.
-    fn with_left(self, cells: u16) -> Cursor
-        ensures last { result.last ≡ self.last }
-        ensures left { result.left ≡ cells }
+    // Begins a call: the cursor stays, and may pass every cell once.
+    pub fn begin(&mut self, links: &[Link])
+        requires few { length links.now ≤ 65535 }
+        requires ring { OnRing links.now self.old }
+        ensures stays { self.new.last ≡ self.old.last }
+        ensures begun { Begun links.now self.new }
     {
-        Cursor {
-            last: self.last,
-            left: cells,
-        }
+        self.left = links.len() as u16;
     }
 
-    // The cursor that has passed a cell, so many steps on.
-    fn pass(self, cell: u16, steps: u16) -> Cursor
-        requires { steps ≤ self.left }
-        ensures last { result.last ≡ cell }
-        ensures left { result.left ≡ self.left - steps }
+    // Takes the next unused cell ahead of the cursor, which passes it. There has to be one.
+    pub fn take(&mut self, links: &[Link]) -> u16
+        requires few { length links.now ≤ 65535 }
+        requires ring { OnRing links.now self.old }
+        requires some { 0 < avail_count links.now self.old }
+        ensures { Took links.now self.old self.new result }
     {
-        Cursor {
-            last: cell,
-            left: self.left - steps,
-        }
+        let cell = next_unused(links, self.last);
+        let steps = steps_to(links.len() as u16, self.last, cell);
+        self.pass(cell, steps);
+        cell
     }
-}
 
-// Begins a call: the cursor stays, and may pass every cell once.
-pub fn begin(links: &[Link], cursor: Cursor) -> Cursor
-    requires few { length links.now ≤ 65535 }
-    requires ring { OnRing links.now cursor }
-    ensures stays { result.last ≡ cursor.last }
-    ensures begun { Begun links.now result }
-{
-    cursor.with_left(links.len() as u16)
-}
-
-// The next unused cell ahead of the cursor. There has to be one.
-pub fn take(links: &[Link], cursor: Cursor) -> Taken
-    requires few { length links.now ≤ 65535 }
-    requires ring { OnRing links.now cursor }
-    requires some { 0 < avail_count links.now cursor }
-    ensures { Took links.now cursor result }
-{
-    let cell = next_unused(links, cursor.last as usize);
-    let steps = steps_to(links.len(), cursor.last as usize, cell);
-    Taken {
-        cell: cell as u16,
-        cursor: cursor.pass(cell as u16, steps as u16),
+    // Passes a cell, so many steps on.
+    fn pass(&mut self, cell: u16, steps: u16)
+        requires { steps ≤ self.old.left }
+        ensures last { self.new.last ≡ cell }
+        ensures left { self.new.left ≡ self.old.left - steps }
+    {
+        self.last = cell;
+        self.left -= steps;
     }
 }
 
 // The steps upward from a cell to another in a ring of so many cells.
 #[tactic(auto, unfolding(crate::specs::Ring::steps))]
-fn steps_to(cells: usize, from: usize, cell: usize) -> usize
+fn steps_to(cells: u16, from: u16, cell: u16) -> u16
     requires from { from ≤ cells }
     requires cell { cell ≤ cells }
-    requires few { cells ≤ 65535 }
     ensures { result ≡ steps cells from cell }
 {
     if from < cell {
@@ -93,7 +70,8 @@ fn steps_to(cells: usize, from: usize, cell: usize) -> usize
 
 // The next unused cell up the ring. There has to be one.
 #[tactic(auto, unfolding(crate::specs::Ring::steps))]
-fn next_unused(links: &[Link], from: usize) -> usize
+fn next_unused(links: &[Link], from: u16) -> u16
+    requires few { length links.now ≤ 65535 }
     requires from { from ≤ length links.now }
     requires some { (c : ℕ) × Unused links.now c }
     ensures unused { Unused links.now result }
@@ -106,12 +84,14 @@ fn next_unused(links: &[Link], from: usize) -> usize
 }
 
 // The lowest unused cell above another.
-fn lowest_unused(links: &[Link], from: usize) -> Option<usize>
-    requires { from ≤ length links.now }
+fn lowest_unused(links: &[Link], from: u16) -> Option<u16>
+    requires few { length links.now ≤ 65535 }
+    requires from { from ≤ length links.now }
     ensures some { IfSome result (λ c. (from < c) × Unused links.now c) }
     ensures lowest { IfSome result (λ c. (d : ℕ) → Unused links.now d → from < d → c ≤ d) }
     ensures none { IfNone result ((d : ℕ) → Unused links.now d → d ≤ from) }
 {
-    let skipped = links[from..].iter().position(|link| link.refs() == 0)?;
-    Some(from + skipped + 1)
+    let above = &links[usize::from(from)..];
+    let skipped = above.iter().position(|link| link.refs() == 0)?;
+    Some(from + skipped as u16 + 1)
 }

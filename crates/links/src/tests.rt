@@ -9,7 +9,7 @@ use crate::cells::{count_of, left_of, levels_of, link_of, refs_of, right_of};
 use crate::holders::{adopt, release};
 use crate::link::Link;
 use crate::nodes::{clear, node};
-use crate::ring::{Cursor, Taken, begin, take};
+use crate::ring::Cursor;
 use crate::walk::Walk;
 use std::process::Abort;
 use std::test::Fail;
@@ -29,25 +29,25 @@ fn are_like(l: Link, r: Link) -> bool
 fn plant(
     rt: &impl Abort,
     links: &mut [Link],
-    cursor: Cursor,
+    cursor: &mut Cursor,
     left: u16,
     right: u16,
-) -> Result<Taken, Fail>
+) -> Result<u16, Fail>
     requires few { length links.old ≤ 65535 }
-    requires ring { OnRing links.old cursor }
-    requires some { 0 < avail_count links.old cursor }
-    requires left { Settled links.old cursor left }
-    requires right { Settled links.old cursor right }
-    ensures step { IfOk result (λ t. Step links.old links.new cursor t left right) }
-    ensures tree { IfOk result (λ t. Settled links.new t.cursor t.cell) }
-    ensures built { IfOk result (λ t. Built links.old links.new t.cell left right) }
+    requires ring { OnRing links.old cursor.old }
+    requires some { 0 < avail_count links.old cursor.old }
+    requires left { Settled links.old cursor.old left }
+    requires right { Settled links.old cursor.old right }
+    ensures step { IfOk result (λ c. Step links.old links.new cursor.old cursor.new c left right) }
+    ensures tree { IfOk result (λ c. Settled links.new cursor.new c) }
+    ensures built { IfOk result (λ c. Built links.old links.new c left right) }
 {
     let l = link_of(links, left);
     let r = link_of(links, right);
     assert!(rt; are_like(l, r));
-    let taken = take(links, cursor);
-    node(links, taken.cell, left, right);
-    Ok(taken)
+    let cell = cursor.take(links);
+    node(links, cell, left, right);
+    Ok(cell)
 }
 
 // Cell 3 over cells 1 and 2. Answers cells 1 and 3.
@@ -56,12 +56,13 @@ fn three_cells(rt: &impl Abort, links: &mut [Link]) -> Result<(u16, u16), Fail>
     ensures { IfOk result (λ p. Planted links.new p.0 p.1) }
 {
     clear(links);
-    let start = begin(links, Cursor::new());
-    let low = plant(rt, links, start, 0, 0)?;
-    let high = plant(rt, links, low.cursor, 0, 0)?;
-    let root = plant(rt, links, high.cursor, low.cell, high.cell)?;
-    assert_eq!(rt; (low.cell, high.cell, root.cell), (1, 2, 3));
-    Ok((low.cell, root.cell))
+    let mut cursor = Cursor::new();
+    cursor.begin(links);
+    let low = plant(rt, links, &mut cursor, 0, 0)?;
+    let high = plant(rt, links, &mut cursor, 0, 0)?;
+    let root = plant(rt, links, &mut cursor, low, high)?;
+    assert_eq!(rt; (low, high, root), (1, 2, 3));
+    Ok((low, root))
 }
 
 fn share_a_side(rt: &impl Abort, links: &mut [Link]) -> Result<(), Fail>
@@ -117,16 +118,13 @@ fn take_round(rt: &impl Abort, links: &mut [Link]) -> Result<(), Fail>
     let (low, root) = three_cells(rt, links)?;
     assert_eq!(rt; levels_of(links, low), 1);
     assert_eq!(rt; adopt(links, low), 1);
-    let start = begin(links, Cursor::new());
-    let first = take(links, start);
-    assert_eq!(rt; first.cell, 2, "cell 1 is live");
-    assert_eq!(rt; take(links, first.cursor).cell, 3);
-    let again = begin(links, first.cursor);
-    assert_eq!(rt;
-        take(links, again).cell,
-        3,
-        "the cursor stays between calls"
-    );
+    let mut cursor = Cursor::new();
+    cursor.begin(links);
+    assert_eq!(rt; cursor.take(links), 2, "cell 1 is live");
+    let mut again = cursor;
+    assert_eq!(rt; cursor.take(links), 3);
+    again.begin(links);
+    assert_eq!(rt; again.take(links), 3, "the cursor stays between calls");
     assert_eq!(rt; root, 3);
     Ok(())
 }

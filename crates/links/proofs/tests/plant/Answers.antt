@@ -18,9 +18,9 @@ node-requires g c =
     let l = c.link_of-l.ensures in
     let r = c.link_of-r.ensures in
     record {
-      low = c.take-taken.ensures.was.unused.low;
-      high = c.take-taken.ensures.was.unused.high;
-      unused = c.take-taken.ensures.was.unused.refs;
+      low = c.take-cell.ensures.was.unused.low;
+      high = c.take-cell.ensures.was.unused.high;
+      unused = c.take-cell.ensures.was.unused.refs;
       left = stands_low _ _ c.requires.left.tree c.requires.left.stands;
       right = stands_low _ _ c.requires.right.tree c.requires.right.stands;
       count = omega (arith, like.few yes, ap count_in l, ap count_in r);
@@ -34,10 +34,10 @@ returns g c =
     let like = c.are_like.ensures in
     let l = ap levels_in c.link_of-l.ensures in
     let r = ap levels_in c.link_of-r.ensures in
-    let step : Step c.args.links.now c.node.new.links c.args.cursor c.take-taken.result c.args.left c.args.right =
-    record { took = c.take-taken.ensures; wrote = c.node.ensures.wrote } in
+    let step : Step c.args.links.now c.node.new.links c.args.cursor.now c.take-cell.new.self c.take-cell.result c.args.left c.args.right =
+    record { took = c.take-cell.ensures; wrote = c.node.ensures.wrote } in
     record {
       step = step;
-      tree = settles _ _ _ _ _ _ step c.requires.left c.requires.right (omega (arith, like.left yes)) (omega (arith, like.right yes));
+      tree = settles _ _ _ _ _ _ _ step c.requires.left c.requires.right (omega (arith, like.left yes)) (omega (arith, like.right yes));
       built = c.node.ensures.built;
     }

@@ -7,11 +7,11 @@ use Rattle.links.proofs.tests.three_cells.Goals as goal
 pub plant-requires-2 : goal.plant-requires-2
 plant-requires-2 g c =
     let low = c.in_ok-low.ensures.step in
-    let uses = building.uses _ _ _ _ _ _ low in
+    let uses = building.uses _ _ _ _ _ _ _ low in
     record {
       few = omega (arith, low.wrote.len);
       ring = uses.0;
-      some = omega (arith, uses.1, c.begin-start.ensures.begun.count);
+      some = omega (arith, uses.1, c.begin.ensures.begun.count);
       left = empty _ _;
       right = empty _ _;
     }
@@ -20,12 +20,12 @@ pub plant-requires-3 : goal.plant-requires-3
 plant-requires-3 g c =
     let low = c.in_ok-low.ensures.step in
     let high = c.in_ok-high.ensures.step in
-    let uses = building.uses _ _ _ _ _ _ high in
+    let uses = building.uses _ _ _ _ _ _ _ high in
     record {
       few = omega (arith, low.wrote.len, high.wrote.len);
       ring = uses.0;
-      some = omega (arith, uses.1, (building.uses _ _ _ _ _ _ low).1, c.begin-start.ensures.begun.count);
-      left = building.stays _ _ _ _ _ _ _ high c.in_ok-low.ensures.tree;
+      some = omega (arith, uses.1, (building.uses _ _ _ _ _ _ _ low).1, c.begin.ensures.begun.count);
+      left = building.stays _ _ _ _ _ _ _ _ high c.in_ok-low.ensures.tree;
       right = c.in_ok-high.ensures.tree;
     }
 
@@ -34,7 +34,7 @@ returns g c =
     let low = c.in_ok-low.ensures in
     let high = c.in_ok-high.ensures in
     let root = c.in_ok-root.ensures in
-    let low_tree = building.stays _ _ _ _ _ _ _ root.step (building.stays _ _ _ _ _ _ _ high.step low.tree) in
+    let low_tree = building.stays _ _ _ _ _ _ _ _ root.step (building.stays _ _ _ _ _ _ _ _ high.step low.tree) in
     record {
       size = omega (arith, low.step.wrote.len, high.step.wrote.len, root.step.wrote.len, c.clear.ensures.kept.len);
       counted = root.built.counted [] (high.built.counted [] (low.built.counted [] c.clear.ensures.counted));
