@@ -10,7 +10,7 @@ pub(crate) fn place(cell: u16) -> usize
     requires { 0 < cell }
     ensures { result ≡ cell - 1 }
 {
-    (cell - 1) as usize
+    usize::from(cell - 1)
 }
 
 // The record of a cell.

@@ -31,7 +31,7 @@ impl Walk {
         requires { BalancedAt links.now root }
         ensures { (t : Tree ℕ) → Stands links.now root t → ToCome links.now result (drop place (inorder t)) }
     {
-        if place < count_of(links, root) as usize {
+        if place < usize::from(count_of(links, root)) {
             Walk::seek(links, root, place)
         } else {
             Walk {
@@ -93,10 +93,8 @@ impl Walk {
         let mut n = root;
         let mut skip = place;
         while n != 0 {
-            let link = link_of(links, n);
-            let left = link.left();
-            let right = link.right();
-            let before = count_of(links, left) as usize;
+            let (left, right) = link_of(links, n).sides();
+            let before = usize::from(count_of(links, left));
             if skip <= before {
                 walk.stack[walk.depth] = n;
                 walk.depth += 1;

@@ -15,5 +15,5 @@ seek-requires c =
       room = omega (arith, (few_levels _ _ c.requires).in_22 (omega arith));
     }
 
-pub returns-else-place-count_of : goal.returns-else-place-count_of
-returns-else-place-count_of c t s = drop_all c.args.place (inorder t) (omega (arith, inorder-size t, count_told _ _ t s))
+pub returns-else-place-from : goal.returns-else-place-from
+returns-else-place-from c t s = drop_all c.args.place (inorder t) (omega (arith, inorder-size t, count_told _ _ t s))
