@@ -4,7 +4,7 @@ ghost use Rattle.links.specs.Fields.{left_in, right_in, count_in, levels_in, ref
 
 mod counts;
 
-#[derive(Clone, Copy)]
+#[derive(Debug, Clone, Copy, PartialEq, Eq)]
 pub struct Link {
     left: u16,
     right: u16,

@@ -5,7 +5,7 @@ ghost use Rattle.links.specs.Ring.{OnRing, Unused, steps, avail_count, Begun, To
 use crate::link::Link;
 
 // Where the cells are taken: the cell passed last, 0 for none, and how many cells the call may still pass.
-#[derive(Clone, Copy)]
+#[derive(Debug, Clone, Copy, PartialEq, Eq)]
 pub struct Cursor {
     last: u16,
     left: u16,

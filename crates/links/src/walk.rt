@@ -11,7 +11,7 @@ use crate::link::Link;
 const LEVELS: usize = 22;
 
 // The cells that wait, the next one last. After each comes the tree on its right.
-#[derive(Drop)]
+#[derive(Debug, Drop)]
 pub struct Walk {
     stack: [u16; LEVELS],
     depth: usize,
