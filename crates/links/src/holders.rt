@@ -1,4 +1,5 @@
 // References to trees: counts go up where a tree is adopted and down where it is released, and nowhere else.
+// `adopt` and `release` are inlined into their recursions, so that a missing side costs no call.
 ghost use Rattle.std.specs.Prelude.{ℕ, ◌+◌, ◌^◌, ◌<◌, ◌≤◌, List, ◌∷◌, length};
 ghost use Rattle.links.specs.Cells.{levels_of};
 ghost use Rattle.links.specs.Counted.{Counted};
@@ -10,6 +11,8 @@ use crate::link::Link;
 
 // Adds an outside reference to the tree at a link, and answers how many cells became live.
 // Each level on the way down counts for an outside reference of its own until its cell is live.
+#[cycle(adopt)]
+#[inline(always)]
 pub fn adopt(links: &mut [Link], root: u16) -> u32
     requires few { length links.old ≤ 65535 }
     requires tree { BalancedAt links.old root }
@@ -23,6 +26,7 @@ pub fn adopt(links: &mut [Link], root: u16) -> u32
     }
 }
 
+#[cycle(adopt)]
 fn adopt_cell(links: &mut [Link], cell: u16) -> u32
     requires few { length links.old ≤ 65535 }
     requires low { 0 < cell }
@@ -37,22 +41,16 @@ fn adopt_cell(links: &mut [Link], cell: u16) -> u32
         return 0;
     }
     let (left, right) = link.sides();
-    let made = if left == 0 {
-        0
-    } else {
-        adopt_cell(links, left)
-    };
-    let more = if right == 0 {
-        0
-    } else {
-        adopt_cell(links, right)
-    };
+    let made = adopt(links, left);
+    let more = adopt(links, right);
     raise(links, cell);
     1 + made + more
 }
 
 // Takes an outside reference to the tree at a link away, and answers how many cells became unused: from the root
 // downward, until a cell still has a holder.
+#[cycle(release)]
+#[inline(always)]
 pub fn release(links: &mut [Link], root: u16) -> u32
     requires few { length links.old ≤ 65535 }
     requires counted { (rs : List ℕ) × Counted links.old (root ∷ rs) }
@@ -65,6 +63,7 @@ pub fn release(links: &mut [Link], root: u16) -> u32
     }
 }
 
+#[cycle(release)]
 fn release_cell(links: &mut [Link], cell: u16) -> u32
     requires few { length links.old ≤ 65535 }
     requires low { 0 < cell }
@@ -77,15 +76,7 @@ fn release_cell(links: &mut [Link], cell: u16) -> u32
         return 0;
     }
     let (left, right) = link.sides();
-    let freed = if left == 0 {
-        0
-    } else {
-        release_cell(links, left)
-    };
-    let more = if right == 0 {
-        0
-    } else {
-        release_cell(links, right)
-    };
+    let freed = release(links, left);
+    let more = release(links, right);
     1 + freed + more
 }
