@@ -16,11 +16,6 @@ release-release_cell-requires t c =
 pub release-returns-then-root-eq0 : goal.release-returns-then-root-eq0
 release-returns-then-root-eq0 t c = released_none c.args.links.now c.args.root c.if-root-eq0.true
 
-pub release_cell-lower-requires : goal.release_cell-lower-requires
-release_cell-lower-requires t c =
-    let (rs, k) = c.requires.counted in
-    record { low = c.requires.low; high = c.requires.high; some = held_live c.args.links.now rs c.args.cell c.requires.low k }
-
 pub release_cell-returns-then-lower : goal.release_cell-returns-then-lower
 release_cell-returns-then-lower t c =
     let cut = c.lower.ensures in

@@ -1,11 +1,7 @@
 use Rattle.std.proofs.Common.{◌≡◌, ℕ, ◌<◌, ◌≤◌, length, arith}
 use Rattle.links.specs.Cells.{refs_of}
-use Rattle.links.proofs.Tables.{kept_refl}
 use Rattle.links.proofs.Writing.{swept, all_unused, none_live_count, none_counted}
 use Rattle.links.proofs.nodes.clear.Goals as goal
-
-pub loop-link-init : goal.loop-link-init
-loop-link-init c = (kept_refl c.args.links.now, λ d p q. absurd (omega arith))
 
 pub loop-link-preserved : goal.loop-link-preserved
 loop-link-preserved c =

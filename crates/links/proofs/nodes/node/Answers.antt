@@ -6,16 +6,6 @@ use Rattle.links.proofs.Tables.{at_same, at_other}
 use Rattle.links.proofs.Writing.{built}
 use Rattle.links.proofs.nodes.node.Goals as goal
 
-pub over-requires : goal.over-requires
-over-requires c =
-    let l = c.link_of-l.ensures in
-    let r = c.link_of-r.ensures in
-    record {
-      count = omega (arith, c.requires.count, ap count_in l, ap count_in r);
-      left_levels = omega (arith, c.requires.left_levels, ap levels_in l);
-      right_levels = omega (arith, c.requires.right_levels, ap levels_in r);
-    }
-
 pub returns : goal.returns
 returns c =
     let ls : List Link = c.args.links.now in

@@ -1,33 +1,13 @@
-use Rattle.std.proofs.Common.{[], arith, rules}
-use Rattle.std.proofs.lemmas.Result.{IfOk-from_err}
-use Rattle.links.proofs.Settling.{building, empty}
+use Rattle.std.proofs.Common.{[], arith}
+use Rattle.links.proofs.Settling.{building}
 use Rattle.links.proofs.Standing.{stands_low}
 use Rattle.links.proofs.tests.three_cells.Goals as goal
 
-pub plant-requires-2 : goal.plant-requires-2
-plant-requires-2 g c =
-    let low = c.in_ok-low.ensures.step in
-    let uses = building.uses _ _ _ _ _ _ _ low in
-    record {
-      few = omega (arith, low.wrote.len);
-      ring = uses.0;
-      some = omega (arith, uses.1, c.begin.ensures.begun.count);
-      left = empty _ _;
-      right = empty _ _;
-    }
-
-pub plant-requires-3 : goal.plant-requires-3
-plant-requires-3 g c =
+pub plant-requires-3-clause-some : goal.plant-requires-3-clause-some
+plant-requires-3-clause-some g c =
     let low = c.in_ok-low.ensures.step in
     let high = c.in_ok-high.ensures.step in
-    let uses = building.uses _ _ _ _ _ _ _ high in
-    record {
-      few = omega (arith, low.wrote.len, high.wrote.len);
-      ring = uses.0;
-      some = omega (arith, uses.1, (building.uses _ _ _ _ _ _ _ low).1, c.begin.ensures.begun.count);
-      left = building.stays _ _ _ _ _ _ _ _ high c.in_ok-low.ensures.tree;
-      right = c.in_ok-high.ensures.tree;
-    }
+    omega (arith, (building.uses _ _ _ _ _ _ _ low).1, (building.uses _ _ _ _ _ _ _ high).1, c.begin.ensures.begun.count)
 
 pub returns : goal.returns
 returns g c =
@@ -44,9 +24,3 @@ returns g c =
       first_high = stands_low _ _ low_tree.tree low_tree.stands;
       second_high = stands_low _ _ root.tree.tree root.tree.stands;
     }
-
-pub returns-in_err-high : goal.returns-in_err-high
-returns-in_err-high g c = search (rules, IfOk-from_err)
-
-pub returns-in_err-root : goal.returns-in_err-root
-returns-in_err-root g c = search (rules, IfOk-from_err)
