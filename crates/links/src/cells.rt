@@ -14,6 +14,7 @@ pub(crate) fn place(cell: u16) -> usize
 }
 
 // The record of a cell.
+#[tactic(auto, using(crate::proofs::Tables::at_place, crate::proofs::Tables::at_zero))]
 pub fn link_of(links: &[Link], cell: u16) -> Link
     requires { cell ≤ length links.now }
     ensures { result ≡ at links.now cell }
