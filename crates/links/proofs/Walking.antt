@@ -2,11 +2,10 @@
 use Rattle.std.proofs.Common.{◌≡◌, ℕ, zero, suc, ◌+◌, ◌-◌, ◌<◌, ◌≤◌, ◌≢◌, List, [], ◌∷◌, ◌++◌, length, get_or, drop, set, sym, refl, ap, ◌∙◌, subst, append_assoc, add-one, arith}
 use Rattle.std.proofs.lemmas.List.{get_or-set_same, get_or-set_other, length-set, drop_all, drop-append-le, drop_at, drop-drop}
 use Rattle.links.specs.declared.link.Link.{Link}
-use Rattle.links.specs.declared.walk.Walk.{Walk}
 use Rattle.links.specs.Cells.{left_of, right_of, count_of, levels_of, Side, to_left, to_right, link_of}
 use Rattle.links.specs.Stands.{Stands}
 use Rattle.links.specs.Trees.{Tree, tip, inorder}
-use Rattle.links.specs.Walks.{Waits, Pending, ToCome, RoomFor}
+use Rattle.links.specs.Walks.{Waits, Pending, RoomFor}
 use Rattle.links.proofs.Standing.{unique, Sides, sides, side_levels, count_told, inorder-size}
 
 -- what waits below a place stays under a write above
@@ -41,23 +40,20 @@ drop_past xs x ys n = sym (drop-drop (suc n) (length xs) (xs ++ (x ∷ ys))) ∙
 left_length : (ls : List Link) (n : ℕ) (t : Tree ℕ) (o : Sides ls n t) → count_of ls (left_of ls n) ≡ length (inorder o.left)
 left_length ls n t o = count_told ls (left_of ls n) o.left o.stands.left ∙ sym (inorder-size o.left)
 
+pub none_wait : (ls : List Link) (st : List ℕ) (d : ℕ) (cells : List ℕ) → d ≡ 0 → cells ≡ [] → Pending ls st d cells
+none_wait ls st d cells empty none = rw empty none
+
 -- the cells to come are those of the tree at link n but the first `skip`, then those that wait
-pub record Ahead (ls : List Link) (w : Walk) (n skip : ℕ) (cells : List ℕ) : Type 0 where
+pub record Ahead (ls : List Link) (st : List ℕ) (d n skip : ℕ) (cells : List ℕ) : Type 0 where
   pub tree : Tree ℕ
   pub rest : List ℕ
   pub stands : Stands ls n tree
-  pub waits : ToCome ls w rest
+  pub waits : Pending ls st d rest
   pub are : cells ≡ drop skip (inorder tree) ++ rest
 
--- with cell n put on the stack
-abbrev pushed : Walk → ℕ → Walk
-pushed w n = record { stack = set w.stack w.depth n; depth = w.depth + 1 }
-
-module _ (ls : List Link) (w : Walk) (n skip : ℕ) (cells : List ℕ) (some : n ≡ 0 → ⊥) (a : Ahead ls w n skip cells) where
-  ahead_left : w.depth + levels_of ls n ≤ 22 → length w.stack ≡ 22 → skip ≤ count_of ls (left_of ls n) → Ahead ls (pushed w n) (left_of ls n) skip cells
+module _ (ls : List Link) (st : List ℕ) (d n skip : ℕ) (cells : List ℕ) (some : n ≡ 0 → ⊥) (a : Ahead ls st d n skip cells) where
+  ahead_left : d + levels_of ls n ≤ 22 → length st ≡ 22 → skip ≤ count_of ls (left_of ls n) → Ahead ls (set st d n) (d + 1) (left_of ls n) skip cells
   ahead_left room long few =
-      let st : List ℕ = w.stack in
-      let d : ℕ = w.depth in
       let o = sides ls n a.tree (omega arith) a.stands in
       let xs : List ℕ = inorder o.left in
       let ys : List ℕ = inorder o.right in
@@ -80,7 +76,7 @@ module _ (ls : List Link) (w : Walk) (n skip : ℕ) (cells : List ℕ) (some : n
         are = cc (a.are, o.is, drop-append-le skip xs (n ∷ ys) short, append_assoc (drop skip xs) (n ∷ ys) a.rest);
       }
 
-  ahead_right : (skip' : ℕ) → skip ≡ count_of ls (left_of ls n) + suc skip' → Ahead ls w (right_of ls n) skip' cells
+  ahead_right : (skip' : ℕ) → skip ≡ count_of ls (left_of ls n) + suc skip' → Ahead ls st d (right_of ls n) skip' cells
   ahead_right skip' past =
       let o = sides ls n a.tree (omega arith) a.stands in
       let xs : List ℕ = inorder o.left in
@@ -95,13 +91,13 @@ module _ (ls : List Link) (w : Walk) (n skip : ℕ) (cells : List ℕ) (some : n
       }
 
 -- at link n on the way down: the cells that were to come at its start are still to come
-pub record Going (ls : List Link) (Start : List ℕ → Type 0) (w : Walk) (n skip : ℕ) : Type 0 where
+pub record Going (ls : List Link) (Start : List ℕ → Type 0) (st : List ℕ) (d n skip : ℕ) : Type 0 where
   pub fits : n < 65536
-  pub long : length w.stack ≡ 22
-  pub room : RoomFor ls n w.depth
-  pub ahead : (cells : List ℕ) → Start cells → Ahead ls w n skip cells
+  pub long : length st ≡ 22
+  pub room : RoomFor ls n d
+  pub ahead : (cells : List ℕ) → Start cells → Ahead ls st d n skip cells
 
-module _ {ls : List Link} {Start : List ℕ → Type 0} {w : Walk} {n skip : ℕ} (g : Going ls Start w n skip) where
+module _ {ls : List Link} {Start : List ℕ → Type 0} {st : List ℕ} {d n skip : ℕ} (g : Going ls Start st d n skip) where
   module _ (some : n ≡ 0 → ⊥) where
     pub going_sides : Sides ls n g.room.tree
     going_sides = sides ls n g.room.tree (omega arith) g.room.stands
@@ -109,30 +105,30 @@ module _ {ls : List Link} {Start : List ℕ → Type 0} {w : Walk} {n skip : ℕ
     pub going_falls : (s : Side) (k : ℕ) → k ≡ link_of s ls n → levels_of ls k < levels_of ls n
     going_falls s k e = rw e (side_levels ls n g.room.tree going_sides s)
 
-    pub going_left : (k : ℕ) → k < 65536 → k ≡ left_of ls n → skip ≤ count_of ls (left_of ls n) → Going ls Start (pushed w n) k skip
-    going_left k fits e few =
+    pub going_left : (us : List ℕ) (e k : ℕ) → us ≡ set st d n → e ≡ d + 1 → k < 65536 → k ≡ left_of ls n → skip ≤ count_of ls (left_of ls n) → Going ls Start us e k skip
+    going_left us e k on up fits is few =
         let o = going_sides in
-        subst (λ (j : ℕ). Going ls Start (pushed w n) j skip) (sym e) (record {
+        rw (on, up, is) (record {
           fits = omega arith;
-          long = length-set w.stack w.depth n ∙ g.long;
+          long = length-set st d n ∙ g.long;
           room = record { tree = o.left; stands = o.stands.left; room = omega (arith, going_falls to_left (left_of ls n) refl) };
-          ahead = λ cells s. ahead_left ls w n skip cells some (g.ahead cells s) g.room.room g.long few;
+          ahead = λ cells s. ahead_left ls st d n skip cells some (g.ahead cells s) g.room.room g.long few;
         })
 
-    pub going_right : (k skip' : ℕ) → k < 65536 → k ≡ right_of ls n → skip ≡ count_of ls (left_of ls n) + suc skip' → Going ls Start w k skip'
+    pub going_right : (k skip' : ℕ) → k < 65536 → k ≡ right_of ls n → skip ≡ count_of ls (left_of ls n) + suc skip' → Going ls Start st d k skip'
     going_right k skip' fits e past =
         let o = going_sides in
-        subst (λ (j : ℕ). Going ls Start w j skip') (sym e) (record {
+        subst (λ (j : ℕ). Going ls Start st d j skip') (sym e) (record {
           fits = omega arith;
           long = g.long;
           room = record { tree = o.right; stands = o.stands.right; room = omega (arith, going_falls to_right (right_of ls n) refl) };
-          ahead = λ cells s. ahead_right ls w n skip cells some (g.ahead cells s) skip' past;
+          ahead = λ cells s. ahead_right ls st d n skip cells some (g.ahead cells s) skip' past;
         })
 
   -- at link 0 all that is to come waits
-  pub going_ends : n ≡ 0 → (cells : List ℕ) → Start cells → ToCome ls w cells
+  pub going_ends : n ≡ 0 → (cells : List ℕ) → Start cells → Pending ls st d cells
   going_ends none cells s =
       let a = g.ahead cells s in
       let e : a.tree ≡ tip = unique ls n a.tree tip a.stands none in
       let f : cells ≡ a.rest = cc (a.are, e, drop_all {X = ℕ} skip [] (omega arith)) in
-      subst (λ (xs : List ℕ). ToCome ls w xs) (sym f) a.waits
+      subst (λ (xs : List ℕ). Pending ls st d xs) (sym f) a.waits

@@ -1,5 +1,5 @@
 // A walk over the cells of a tree, from left to right, without allocation.
-ghost use Rattle.std.specs.Prelude.{◌≡◌, ℕ, List, ◌++◌, drop, Some, ◌≢◌};
+ghost use Rattle.std.specs.Prelude.{◌≡◌, ℕ, ◌+◌, ◌<◌, List, ◌++◌, drop, Some, ◌≢◌, slice_set};
 ghost use Rattle.links.specs.Stands.{Stands, BalancedAt};
 ghost use Rattle.links.specs.Trees.{Tree, inorder};
 ghost use Rattle.links.specs.Walks.{ToCome, RoomFor, first};
@@ -34,10 +34,7 @@ impl Walk {
         if place < usize::from(count_of(links, root)) {
             Walk::seek(links, root, place)
         } else {
-            Walk {
-                stack: [0; LEVELS],
-                depth: 0,
-            }
+            Walk::empty()
         }
     }
 
@@ -75,8 +72,7 @@ impl Walk {
     {
         let mut n = root;
         while n != 0 {
-            self.stack[self.depth] = n;
-            self.depth += 1;
+            self.push(n);
             n = left_of(links, n);
         }
     }
@@ -86,18 +82,14 @@ impl Walk {
         requires { RoomFor links.now root 0 }
         ensures { (t : Tree ℕ) → Stands links.now root t → ToCome links.now result (drop place (inorder t)) }
     {
-        let mut walk = Walk {
-            stack: [0; LEVELS],
-            depth: 0,
-        };
+        let mut walk = Walk::empty();
         let mut n = root;
         let mut skip = place;
         while n != 0 {
             let (left, right) = link_of(links, n).sides();
             let before = usize::from(count_of(links, left));
             if skip <= before {
-                walk.stack[walk.depth] = n;
-                walk.depth += 1;
+                walk.push(n);
                 n = left;
             } else {
                 skip -= before + 1;
@@ -105,5 +97,25 @@ impl Walk {
             }
         }
         walk
+    }
+
+    // A walk with no cell to come.
+    fn empty() -> Walk
+        ensures { result.depth ≡ 0 }
+    {
+        Walk {
+            stack: [0; LEVELS],
+            depth: 0,
+        }
+    }
+
+    // Puts a cell on the stack.
+    fn push(&mut self, cell: u16)
+        requires { self.old.depth < 22 }
+        ensures stack { self.new.stack ≡ slice_set self.old.stack self.old.depth cell }
+        ensures depth { self.new.depth ≡ self.old.depth + 1 }
+    {
+        self.stack[self.depth] = cell;
+        self.depth += 1;
     }
 }

@@ -3,7 +3,7 @@ use Rattle.links.specs.Cells.{left_of, count_of, to_left, to_right}
 use Rattle.links.specs.Fields.{left_in, right_in}
 use Rattle.links.specs.Trees.{inorder}
 use Rattle.links.proofs.Standing.{stands_low}
-use Rattle.links.proofs.Walking.{going_sides, going_falls, going_left, going_right, going_ends}
+use Rattle.links.proofs.Walking.{none_wait, going_sides, going_falls, going_left, going_right, going_ends}
 use Rattle.links.proofs.walk.Walk.seek.Goals as goal
 
 pub link_of-requires : goal.link_of-requires
@@ -14,8 +14,8 @@ count_of-requires c =
     let o = going_sides c.loop-n.invariant c.loop-n-test.true in
     rw (c.sides-left.ensures.left, c.link_of.ensures) (stands_low _ _ o.left o.stands.left)
 
-pub bounds-walk-walk : goal.bounds-walk-walk
-bounds-walk-walk c = omega (arith, going_falls c.loop-n.invariant c.loop-n-test.true to_left _ refl)
+pub push-requires : goal.push-requires
+push-requires c = omega (arith, going_falls c.loop-n.invariant c.loop-n-test.true to_left _ refl)
 
 pub loop-n-smaller-then-skip-before : goal.loop-n-smaller-then-skip-before
 loop-n-smaller-then-skip-before c =
@@ -24,7 +24,7 @@ loop-n-smaller-then-skip-before c =
 pub loop-n-preserved-then-skip-before : goal.loop-n-preserved-then-skip-before
 loop-n-preserved-then-skip-before c =
     let few = rw (c.from-before.ensures, c.count_of.ensures, c.sides-left.ensures.left, c.link_of.ensures) at c.if-skip-before.true in
-    going_left c.loop-n.invariant c.loop-n-test.true c.sides-left.result.0 (omega arith) (c.sides-left.ensures.left ∙ ap left_in c.link_of.ensures) few
+    going_left c.loop-n.invariant c.loop-n-test.true _ _ c.sides-left.result.0 c.push.ensures.stack c.push.ensures.depth (omega arith) (c.sides-left.ensures.left ∙ ap left_in c.link_of.ensures) few
 
 pub loop-n-smaller : goal.loop-n-smaller
 loop-n-smaller c =
@@ -37,4 +37,4 @@ loop-n-preserved c =
 
 pub returns : goal.returns
 returns c t s =
-    going_ends c.loop-n.invariant c.loop-n-test.false _ (record { tree = t; rest = []; stands = s; waits = refl; are = sym (append-nil (drop c.args.place (inorder t))) })
+    going_ends c.loop-n.invariant c.loop-n-test.false _ (record { tree = t; rest = []; stands = s; waits = none_wait _ _ _ _ c.empty-walk.ensures refl; are = sym (append-nil (drop c.args.place (inorder t))) })
