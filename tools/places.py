@@ -27,23 +27,28 @@ def lines(pattern, but=None):
 def functions():
     """(file, name, head with clauses, body) of each function."""
     for f in SOURCES:
-        text = open(f, encoding="utf-8").read()
-        text = re.sub(r"//[^\n]*", "", text)
-        for m in re.finditer(r"^( *)(?:pub(?:\(\w+\))? )?(?:final )?fn (\w+)", text, re.M):
-            rest = text[m.start() :]
-            # the body is the first block that opens at the start of a line, or after the result where there is no clause
-            end = re.search(r"^%s\}|;\n" % m.group(1), rest, re.M)
-            whole = rest[: end.end()] if end else rest
-            at = re.search(r"^%s\{\n| \{\n|\{\}" % m.group(1), whole, re.M)
-            head, body = (whole[: at.start()], whole[at.end() :]) if at else (whole, "")
-            yield f, m.group(2), head, body
+        all_lines = [re.sub(r"//.*", "", x).rstrip() for x in open(f, encoding="utf-8")]
+        for n, first in enumerate(all_lines):
+            m = re.match(r"( *)(?:pub(?:\(\w+\))? )?(?:final )?fn (\w+)", first)
+            if not m:
+                continue
+            at = n
+            while not re.search(r"(\{|\{\}|;)$", all_lines[at]):
+                at += 1
+            head = "\n".join(all_lines[n : at + 1])
+            body = []
+            if all_lines[at].endswith("{"):
+                while all_lines[at + 1] != m.group(1) + "}":
+                    at += 1
+                    body.append(all_lines[at])
+            yield f, m.group(2), head, "\n".join(body)
 
 
 def twins():
     """Functions of the same text but for types, numbers and field names of which the function bears the name."""
     groups = collections.defaultdict(list)
     for f, name, head, body in functions():
-        if not body.strip(" }\n"):
+        if not body.strip():
             continue
         same = re.sub(r"\bb?\"[^\"]*\"|\b[0-9][0-9_a-fA-Fx]*\b", "N", body)
         same = re.sub(r"\b(u8|u16|u32|u64|usize|bool)\b|\b[A-Z]\w*", "T", same)

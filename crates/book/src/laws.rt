@@ -42,6 +42,7 @@ pub fn runs_stay_orderly<K: Kind>()
 {}
 
 // Each call is declined by the first reason that applies and by no other, and then changes nothing.
+#[tactic(auto, using(crate::proofs::Declining::in_order))]
 pub fn refusals_come_in_order<K: Kind>()
     ensures { InOrder K.Kind.ops }
 {}

@@ -24,6 +24,7 @@ pub enum Refusal {
 }
 
 impl Refusal {
+    // The number by which a refusal is told and printed.
     pub fn number(self) -> u8
         ensures { result ≡ number_of self }
     {
@@ -39,7 +40,7 @@ impl Refusal {
     }
 }
 
-// What the label reader refuses is refusal 7.
+// What the label reader refuses is refusal 7. By hand, since a derived `From` says nothing that a clause could cite.
 impl From<NotALabel> for Refusal {
     ghost use Rattle.book.specs.declared.refusal.Refusal.TheVariants.{NotALabel as LabelRefused};
 

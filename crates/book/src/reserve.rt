@@ -44,6 +44,7 @@ pub fn sift_reserve(entries: usize) -> u32
 pub fn build_reserve(entries: usize) -> u32
     ensures { result ≡ capped (build_reserve entries) }
 {
+    // `usize` has no `From<u32>`.
     cap(entries.saturating_add(edit_reserve(entries) as usize))
 }
 

@@ -7,7 +7,7 @@ use kinds::kind::Kind;
 use std::alloc::{AllocError, Global};
 use std::marker::Model;
 
-// Seen as the list of its entries, whose keys rise.
+// Seen as the list of its entries, whose keys rise. No `BTreeMap`, which cannot lend its entries as one slice.
 #[derive(Drop)]
 pub struct SortedVec<K: Kind> {
     entries: Vec<K>,

@@ -94,6 +94,7 @@ pub fn read_row(text: &[u8]) -> Result<SlotRow, Fault>
     if words.next().is_some() {
         return Err(Fault::ExtraWord);
     }
+    // `next_number` ensures that both fit: a `try_from` would add an error that cannot come.
     Ok(SlotRow {
         label,
         gigabytes,

@@ -16,7 +16,8 @@ pub fn label_text(number: u64) -> [u8; 8]
     }
 }
 
-// The line that is read as this row; one with question marks where the row's number is no label.
+// The line that is read as this row; one with question marks where the row's number is no label. A value and no `Display`,
+// since its clause says that it reads back.
 pub fn write_row(heap: Global, row: SlotRow) -> Result<String, AllocError>
     ensures text { IfOk result (λ s. string_bytes s ≡ row_text row) }
     ensures back { ReadsBack row }

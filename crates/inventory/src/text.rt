@@ -20,7 +20,7 @@ pub fn next_line(text: &[u8]) -> Option<(&[u8], &[u8])>
     }
 }
 
-// The lines of a text, from the first on.
+// The lines of a text, from the first on. `Words` is of the same shape, but one type over both would need a trait of cuts, and be longer than the two.
 #[derive(Drop)]
 struct Lines<'a> {
     rest: &'a [u8],

@@ -36,6 +36,7 @@ impl TryFrom<u64> for Label {
     fn try_from(number: u64) -> Result<Label, NotALabel> {
         match first_wrong(&number.to_be_bytes()) {
             None => Ok(Label { number }),
+            // The place is below 8: a `try_from` would add an error that cannot come.
             Some(place) => Err(NotALabel::WrongByte { place: place as u8 }),
         }
     }
@@ -51,6 +52,7 @@ impl From<Label> for u64 {
 }
 
 impl Label {
+    // No `From`: the name is that of std's `to_be_bytes`, and says that these are the label's bytes.
     #[tactic(auto, using(crate::proofs::Reading::reads_back))]
     pub fn to_bytes(self) -> [u8; 8]
         ensures value { result ≡ bytes_of self.number }
@@ -59,6 +61,7 @@ impl Label {
         self.number.to_be_bytes()
     }
 
+    // The derived `<`, with its meaning in numbers: a derive has no clause to say it.
     pub fn less(self, other: Label) -> bool
         ensures { result ≡ nat_lt self.number other.number }
     {

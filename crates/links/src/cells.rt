@@ -1,4 +1,5 @@
 // The records of a table by their cells. Link 0 reads as a blank record.
+// Tables are lent and of fixed size, and a caller hands one slice to a call: so a cell is a number, and what it keeps to stands in the clauses.
 ghost use Rattle.std.specs.Prelude.{◌≡◌, ◌+◌, ◌-◌, ◌^◌, ◌<◌, ◌≤◌, length};
 ghost use Rattle.links.specs.Cells.{at, left_of, right_of, count_of, levels_of, refs_of, Put};
 ghost use Rattle.links.specs.Counted.{is_live};

@@ -47,7 +47,7 @@ impl Link {
         }
     }
 
-    // The link to the left side, 0 for none.
+    // The link to the left side, 0 for none, as the records of lent tables have it.
     pub fn left(self) -> u16
         ensures { result ≡ left_in self }
     {

@@ -27,6 +27,7 @@ impl Cursor {
         ensures stays { self.new.last ≡ self.old.last }
         ensures begun { Begun links.now self.new }
     {
+        // `few` says that it fits.
         self.left = links.len() as u16;
     }
 

@@ -11,6 +11,7 @@ use crate::link::Link;
 const LEVELS: usize = 22;
 
 // The cells that wait, the next one last. After each comes the tree on its right.
+// An array with its length: it allocates nothing, and a walk is half as slow again with the kit's `ArrayVec`.
 #[derive(Debug, Drop)]
 pub struct Walk {
     stack: [u16; LEVELS],
