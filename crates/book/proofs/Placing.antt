@@ -1,10 +1,8 @@
 -- The place of a key among rising keys: a search by halves finds it, and an entry is put there.
-use Rattle.std.proofs.Common.{Ordering, Less, Equal, Greater, ◌≡◌, ℕ, zero, suc, ◌<◌, ◌≤◌, Bool, true, false, cond, List, [], ◌∷◌, length, get_or, set, is_some, Some, None, Ok, Err, Result, MatchResult, sym, refl, ap, ◌∙◌, subst, inl, inr, ◌⊎◌, arith}
-use Rattle.std.proofs.lemmas.Bool.{cases_Bool, cases_eq, both_ways}
+use Rattle.std.proofs.Common.{◌≡◌, ℕ, zero, suc, ◌<◌, ◌≤◌, Bool, true, false, cond, List, [], ◌∷◌, length, get_or, set, is_some, Some, None, sym, refl, ap, subst, inl, inr, arith}
+use Rattle.std.proofs.lemmas.Bool.{cases_Bool, cases_eq}
 use Rattle.std.specs.List.{insert}
-use Rattle.std.specs.Ordering.{is_lt, ordering_index, ordering_reverse}
-use Rattle.std.specs.Cmp.{IsTotalOrder}
-use Rattle.std.specs.List.Sorted.{IsNonDecreasingBy, IsBinarySearchResult, IsSearchInRange}
+use Rattle.std.specs.List.Sorted.{IsPartitionedBy, IsPartitionPoint}
 use Rattle.std.proofs.ByRecursion.{All-get_or}
 use Rattle.kinds.specs.Kinds.{Ops, Laws}
 use Rattle.std.specs.List.{filter}
@@ -27,7 +25,7 @@ module _ {E K S L : Type 0} (o : Ops E K S L) where
   rises_at (x ∷ xs) r zero (suc j) d e h l = All-get_or (λ y. o.less (o.key x) (o.key y) ≡ true) xs j e (omega arith) r.0
   rises_at (x ∷ xs) r (suc i) (suc j) d e h l = rises_at xs r.1 i j d e (omega arith) (omega arith)
 
-  abbrev smaller : K → E → Bool
+  abbrev pub smaller : K → E → Bool
   smaller k x = o.less (o.key x) k
 
   kept_cons : (p : E → Bool) (b : Bool) (x : E) (xs : List E) → p x ≡ b → length (filter p (x ∷ xs)) ≡ cond b (suc (length (filter p xs))) (length (filter p xs))
@@ -120,77 +118,15 @@ module _ {E K S L : Type 0} (o : Ops E K S L) where
             rises = λ e same. subst (Rising o) (sym (missing.1 e same)) (rising_put o laws e xs rising);
           }
 
--- there is an element at a place inside a list
-element : {E : Type 0} (xs : List E) (i : ℕ) → i < length xs → (x : E) × (x ≡ get_or xs i x)
-element [] i h = absurd (omega arith)
-element (x ∷ xs) zero h = (x, refl)
-element (x ∷ xs) (suc i) h = element xs i (omega arith)
-
-three_ways : (c : Ordering) → (c ≡ Less) ⊎ ((c ≡ Equal) ⊎ (c ≡ Greater))
-three_ways Less = inl refl
-three_ways Equal = inr (inl refl)
-three_ways Greater = inr (inr refl)
-
-index_at_most : (c : Ordering) → ordering_index c ≤ 2
-index_at_most Less = omega arith
-index_at_most Equal = omega arith
-index_at_most Greater = omega arith
-
--- what a binary search by the order of keys answers, of entries whose keys rise
-module _ {E K S L : Type 0} (o : Ops E K S L) (laws : Laws o) (cmp : K → K → Ordering) (order : IsTotalOrder cmp) (ordered : (a b : K) → is_lt (cmp a b) ≡ o.less a b) where
-  less_by : (a b : K) (c : Ordering) → cmp a b ≡ c → o.less a b ≡ is_lt c
-  less_by a b c e = sym (ordered a b) ∙ ap is_lt e
-
-  more_by : (a b : K) (c : Ordering) → cmp a b ≡ c → o.less b a ≡ is_lt (ordering_reverse c)
-  more_by a b c e = less_by b a (ordering_reverse c) (order.antisymm b a ∙ ap ordering_reverse e)
-
-  equal_by : (a b : K) → cmp a b ≡ Equal → a ≡ b
-  equal_by a b e = laws.order.total a b (less_by a b Equal e) (more_by a b Equal e)
-
-  less_gives : (a b : K) → o.less a b ≡ true → cmp a b ≡ Less
-  less_gives a b h =
-      elim (three_ways (cmp a b)) [
-        | inl e ↦ e
-        | inr (inl e) ↦ absurd (both_ways (o.less a b) (less_by a b Equal e) h)
-        | inr (inr e) ↦ absurd (both_ways (o.less a b) (less_by a b Greater e) h)
+-- what std's partition by the smaller keys answers, of entries whose keys rise
+module _ {E K S L : Type 0} (o : Ops E K S L) (laws : Laws o) (k : K) (xs : List E) (rising : Rising o xs) where
+  -- the smaller keys come first
+  pub partitioned : IsPartitionedBy (smaller o k) xs
+  partitioned i j d h l less =
+      elim (cases_eq i j) [
+        | inl e ↦ subst (λ n. smaller o k (get_or xs n d) ≡ true) (sym e) less
+        | inr ne ↦ laws.order.transitive (o.key (get_or xs i d)) (o.key (get_or xs j d)) k (rises_at o xs rising i j d d (omega arith) l) less
       ]
 
-  module _ (k : K) (xs : List E) (rising : Rising o xs) where
-    climbs : IsNonDecreasingBy (λ y. ordering_index (cmp (o.key y) k)) xs
-    climbs i j d h l =
-        let low = o.key (get_or xs i d) in
-        let high = o.key (get_or xs j d) in
-        elim (cases_eq i j) [
-          | inl e ↦ omega (arith, ap (λ n. ordering_index (cmp (o.key (get_or xs n d)) k)) e)
-          | inr ne ↦
-              let up = rises_at o xs rising i j d d (omega arith) l in
-              elim (three_ways (cmp high k)) [
-                | inl e ↦ omega (arith, ap ordering_index (less_gives low k (laws.order.transitive low high k up (less_by high k Less e))))
-                | inr (inl e) ↦ omega (arith, ap ordering_index (less_gives low k (subst (λ b. o.less low b ≡ true) (equal_by high k e) up)))
-                | inr (inr e) ↦ omega (arith, index_at_most (cmp low k), ap ordering_index e)
-              ]
-        ]
-
-    pub placed : (r : Result ℕ ℕ) → IsSearchInRange r (length xs) → IsBinarySearchResult (λ y. cmp (o.key y) k) xs r → MatchResult r (StandsAt o k xs) (GoesTo o k xs)
-    placed (Ok i) inside at =
-        let x = element xs i inside in
-        let is : (d : E) → o.key (get_or xs i d) ≡ k = λ d. equal_by (o.key (get_or xs i d)) k (at d) in
-        let here : o.key x.0 ≡ k = ap o.key x.1 ∙ is x.0 in
-        let parts : Parted o k xs i = record {
-          inside = omega arith;
-          below = λ j d h. subst (λ b. o.less (o.key (get_or xs j d)) b ≡ true) (is d) (rises_at o xs rising j i d d h inside);
-          above = λ j d h l.
-              elim (cases_eq j i) [
-                | inl e ↦ subst (λ n. o.less (o.key (get_or xs n d)) k ≡ false) (sym e) (less_by (o.key (get_or xs i d)) k Equal (at d))
-                | inr ne ↦ not_back o laws k (o.key (get_or xs j d)) (subst (λ a. o.less a (o.key (get_or xs j d)) ≡ true) (is d) (rises_at o xs rising i j d d (omega arith) l))
-              ];
-        } in
-        stands_at o laws k xs rising i (ranked o k xs i parts) x.0 inside x.1 (subst (λ a. o.less k a ≡ false) (sym here) (laws.order.irreflexive k))
-    placed (Err i) inside at =
-        let split = at climbs in
-        let parts : Parted o k xs i = record {
-          inside = inside;
-          below = λ j d h. less_by (o.key (get_or xs j d)) k Less (split.0 j d (omega arith) h);
-          above = λ j d h l. less_by (o.key (get_or xs j d)) k Greater (split.1 j d h l);
-        } in
-        goes_to o laws k xs rising i (ranked o k xs i parts) (λ d h. more_by (o.key (get_or xs i d)) k Greater (split.1 i d (omega arith) h))
+  pub is_rank : (place : ℕ) → place ≤ length xs → IsPartitionPoint (λ x. smaller o k x ≡ true) (λ x. smaller o k x ≡ false) xs place → place ≡ rank o k xs
+  is_rank place inside parts = ranked o k xs place (record { inside = inside; below = λ i d h. parts.0 i d (omega arith) h; above = λ i d h l. parts.1 i d h l })

@@ -1,7 +1,7 @@
 ghost use Rattle.std.specs.Prelude.{◌≡◌, Some};
 ghost use Rattle.book.specs.Refusals.{number_of, printed};
 
-use kinds::not_a_label::NotALabel;
+use kinds::label::NotALabel;
 use std::fmt;
 
 // Why a call is declined. They are looked at in this order, each where it applies.

@@ -63,7 +63,19 @@ impl<K: Kind> SortedVec<K> {
     fn seek(&self, key: K::Key) -> Result<usize, usize>
         ensures { MatchResult result (StandsAt K.Kind.ops key self.now) (GoesTo K.Kind.ops key self.now) }
     {
-        self.entries.binary_search_by_key(&key, |entry| entry.key())
+        let place = self.rank(key);
+        match self.as_slice().get(place) {
+            Some(entry) if !K::less(key, entry.key()) => Ok(place),
+            _ => Err(place),
+        }
+    }
+
+    // How many keys are less than a key.
+    fn rank(&self, key: K::Key) -> usize
+        ensures { result ≡ lists.rank K.Kind.ops key self.now }
+    {
+        self.entries
+            .partition_point(|entry| K::less(entry.key(), key))
     }
 }
 

@@ -3,8 +3,7 @@ use crate::reserve::{
     binary_digits, build_reserve, edit_reserve, pair_reserve, sift_reserve, window_reserve,
 };
 use crate::sorted::{SortedVec, sift, total};
-use kinds::label::Label;
-use kinds::not_a_label::NotALabel;
+use kinds::label::{Label, NotALabel};
 use kinds::rows::slot::SlotRow;
 use std::test::Fail;
 
@@ -54,8 +53,8 @@ fn refusals_have_their_numbers(rt: HostRuntime) {
         },
         Refusal::NotALabel(NotALabel::WrongByte { place: 5 }),
     ];
-    for (before, refusal) in refusals.iter().enumerate() {
-        assert_eq!(rt; refusal.number() as usize, before.saturating_add(1));
+    for (number, refusal) in (1u8..).zip(&refusals) {
+        assert_eq!(rt; refusal.number(), number);
     }
 }
 

@@ -1,7 +1,7 @@
 // Why a line of an inventory is refused.
 ghost use Rattle.std.specs.Prelude.{◌≡◌};
 
-use kinds::not_a_label::NotALabel;
+use kinds::label::NotALabel;
 
 // The words of a line, in their order.
 #[derive(Clone, Copy, PartialEq, Eq, Debug)]

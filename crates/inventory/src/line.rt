@@ -11,7 +11,7 @@ use crate::words::Words;
 use kinds::label::Label;
 use kinds::rows::slot::SlotRow;
 
-// What a line says: a row, or nothing where it is empty or a comment alone.
+// What a line says: a row, or nothing where it is empty or a comment alone, or why it is refused.
 pub type Line = Result<Option<SlotRow>, Fault>;
 
 // A word as text, where every byte is a digit.
@@ -53,6 +53,7 @@ pub fn label_number(word: &[u8]) -> Result<u64, Fault>
     Ok(Label::try_from(word)?.into())
 }
 
+// Here, since only a line has fields.
 impl<'a> Words<'a> {
     // The next word, which is for a field.
     fn next_word(&mut self, field: Field) -> Result<&'a [u8], Fault>
@@ -94,7 +95,7 @@ pub fn read_row(text: &[u8]) -> Result<SlotRow, Fault>
     if words.next().is_some() {
         return Err(Fault::ExtraWord);
     }
-    // `next_number` ensures that both fit: a `try_from` would add an error that cannot come.
+    // Both are at most 65,535, so `as` is proved to lose nothing.
     Ok(SlotRow {
         label,
         gigabytes,

@@ -6,7 +6,7 @@ use kinds::label::Label;
 use kinds::rows::slot::SlotRow;
 use std::alloc::{AllocError, Global};
 
-// The eight bytes of a label, or question marks where the number is no label.
+// The eight bytes of a label, or question marks where the number is no label. Bytes and no `Display`, for the same reason as below.
 pub fn label_text(number: u64) -> [u8; 8]
     ensures { result ≡ label_text number }
 {

@@ -4,7 +4,7 @@ ghost use Rattle.std.specs.Prelude.{Some};
 
 use crate::fault::{Fault, Field};
 use crate::note::{Note, Remark};
-use kinds::not_a_label::NotALabel;
+use kinds::label::NotALabel;
 use std::fmt;
 
 impl fmt::Display for Field {

@@ -2,7 +2,7 @@ use crate::fault::{Fault, Field};
 use crate::line::read_line;
 use crate::row::write_row;
 use crate::text::read_text;
-use kinds::not_a_label::NotALabel;
+use kinds::label::NotALabel;
 use kinds::rows::slot::SlotRow;
 use std::process::Abort;
 use std::test::Fail;
@@ -113,7 +113,7 @@ fn wrong_labels(rt: HostRuntime) {
     );
     for place in 0..8u8 {
         let mut line = *b"10 A00001L8 800 300";
-        line[3 + place as usize] = b'-';
+        line[3 + usize::from(place)] = b'-';
         refuses(&rt, &line, Fault::NotALabel(NotALabel::WrongByte { place }));
     }
 }

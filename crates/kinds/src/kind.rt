@@ -1,11 +1,10 @@
 ghost use Rattle.std.specs.Prelude.{◌≡◌};
-ghost use Rattle.std.specs.Ordering.{is_lt};
 ghost use Rattle.kinds.specs.Kinds.{Ops, Laws};
 
 // A kind of entry: what an ordered map with a sum over each part needs of its entries.
 // `ops` says what the functions mean, and every kind proves the laws of that meaning.
-pub trait Kind: Copy + Eq {
-    type Key: Copy + Ord;
+pub trait Kind: Copy {
+    type Key: Copy;
 
     type Sum: Copy;
 
@@ -20,6 +19,14 @@ pub trait Kind: Copy + Eq {
 
     fn key(self) -> Self::Key
         ensures { result ≡ ops.key self };
+
+    // Whether `a` stands before `b` in a map.
+    fn less(a: Self::Key, b: Self::Key) -> bool
+        ensures { result ≡ ops.less a b };
+
+    // Whether the entries are equal in every field.
+    fn same(self, other: Self) -> bool
+        ensures { result ≡ ops.same self other };
 
     // The sum of this entry alone.
     fn measure(self) -> Self::Sum
@@ -39,23 +46,4 @@ pub trait Kind: Copy + Eq {
     ghost lawful: { Laws ops };
 
     ghost neutral_is: { NEUTRAL ≡ ops.neutral };
-
-    // `less` is the order of the keys, and `same` the equality of entries.
-    ghost ordered: { (a b : Self.Key) → is_lt (Self.Key.Ord.cmp a b) ≡ ops.less a b };
-
-    ghost compared: { (x y : Self) → Self.PartialEq.eq x y ≡ ops.same x y };
-
-    // Whether `a` stands before `b` in a map.
-    final fn less(a: Self::Key, b: Self::Key) -> bool
-        ensures { result ≡ ops.less a b }
-    {
-        a < b
-    }
-
-    // Whether the entries are equal in every field.
-    final fn same(self, other: Self) -> bool
-        ensures { result ≡ ops.same self other }
-    {
-        self == other
-    }
 }

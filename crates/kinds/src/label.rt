@@ -1,7 +1,7 @@
 ghost use Rattle.std.specs.Prelude.{◌≡◌, true, false, not, Ok, Err, IfOk, MatchResult, nat_lt, position};
 ghost use Rattle.kinds.specs.Labels.{allowed, bytes_of, is_label, reading};
 
-use crate::not_a_label::NotALabel;
+pub use crate::not_a_label::NotALabel;
 
 // The label of a cartridge: eight bytes, each A to Z or 0 to 9, as the number that they write with the first byte highest.
 // A table holds the number; a label is made from it, or from bytes, by its check. The order of labels is that of their numbers.
@@ -36,7 +36,7 @@ impl TryFrom<u64> for Label {
     fn try_from(number: u64) -> Result<Label, NotALabel> {
         match first_wrong(&number.to_be_bytes()) {
             None => Ok(Label { number }),
-            // The place is below 8: a `try_from` would add an error that cannot come.
+            // The place is below 8, so `as` is proved to lose nothing.
             Some(place) => Err(NotALabel::WrongByte { place: place as u8 }),
         }
     }
@@ -52,7 +52,7 @@ impl From<Label> for u64 {
 }
 
 impl Label {
-    // No `From`: the name is that of std's `to_be_bytes`, and says that these are the label's bytes.
+    // No `From`: `label.to_bytes()` reads better than `<[u8; 8]>::from(label)`.
     #[tactic(auto, using(crate::proofs::Reading::reads_back))]
     pub fn to_bytes(self) -> [u8; 8]
         ensures value { result ≡ bytes_of self.number }

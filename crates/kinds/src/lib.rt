@@ -4,7 +4,7 @@
 pub mod booking;
 pub mod kind;
 pub mod label;
-pub mod not_a_label;
+mod not_a_label;
 pub mod rows;
 #[cfg(test)]
 mod tests;

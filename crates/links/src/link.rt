@@ -54,7 +54,7 @@ impl Link {
         self.left
     }
 
-    // The link to the right side, 0 for none.
+    // The link to the right side, 0 for none as on the left.
     pub fn right(self) -> u16
         ensures { result ≡ right_in self }
     {

@@ -4,7 +4,7 @@ ghost use Rattle.links.specs.Ring.{OnRing, Unused, steps, avail_count, Begun, To
 
 use crate::link::Link;
 
-// Where the cells are taken: the cell passed last, 0 for none, and how many cells the call may still pass.
+// Where the cells are taken: the cell passed last, 0 for none as in the records, and how many cells the call may still pass.
 #[derive(Debug, Clone, Copy, PartialEq, Eq)]
 pub struct Cursor {
     last: u16,
@@ -27,7 +27,7 @@ impl Cursor {
         ensures stays { self.new.last ≡ self.old.last }
         ensures begun { Begun links.now self.new }
     {
-        // `few` says that it fits.
+        // By `few` this loses nothing, nor does it in `take`.
         self.left = links.len() as u16;
     }
 
@@ -94,5 +94,6 @@ fn lowest_unused(links: &[Link], from: u16) -> Option<u16>
 {
     let above = &links[usize::from(from)..];
     let skipped = above.iter().position(|link| link.refs() == 0)?;
+    // `few` says that the place of a cell fits.
     Some(from + skipped as u16 + 1)
 }

@@ -11,7 +11,7 @@ use crate::link::Link;
 const LEVELS: usize = 22;
 
 // The cells that wait, the next one last. After each comes the tree on its right.
-// An array with its length: it allocates nothing, and a walk is half as slow again with the kit's `ArrayVec`.
+// An array with its length, as the rule on walks has it. With the kit's `ArrayVec` a walk was measured to take about half as long again.
 #[derive(Debug, Drop)]
 pub struct Walk {
     stack: [u16; LEVELS],

@@ -38,12 +38,16 @@ impl Kind for BookingRow {
 
     ghost neutral_is = { refl };
 
-    ghost ordered = { Prim.search rules };
-
-    ghost compared = { Prim.search rules };
-
     fn key(self) -> u32 {
         self.start
+    }
+
+    fn less(a: u32, b: u32) -> bool {
+        a < b
+    }
+
+    fn same(self, other: BookingRow) -> bool {
+        self == other
     }
 
     fn measure(self) -> u32 {

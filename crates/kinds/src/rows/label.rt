@@ -48,12 +48,16 @@ impl Kind for LabelRow {
 
     ghost neutral_is = { refl };
 
-    ghost ordered = { Prim.search rules };
-
-    ghost compared = { Prim.search rules };
-
     fn key(self) -> u64 {
         self.label
+    }
+
+    fn less(a: u64, b: u64) -> bool {
+        a < b
+    }
+
+    fn same(self, other: LabelRow) -> bool {
+        self == other
     }
 
     fn measure(self) -> u8 {

@@ -41,12 +41,16 @@ impl Kind for SlotRow {
 
     ghost neutral_is = { refl };
 
-    ghost ordered = { Prim.search rules };
-
-    ghost compared = { Prim.search rules };
-
     fn key(self) -> u16 {
         self.address
+    }
+
+    fn less(a: u16, b: u16) -> bool {
+        a < b
+    }
+
+    fn same(self, other: SlotRow) -> bool {
+        self == other
     }
 
     fn measure(self) -> (u64, u16) {
