@@ -7,7 +7,6 @@ use Rattle.std.specs.Str.Parse.{digits_value}
 use Rattle.kinds.specs.Labels.{reading}
 use Rattle.kinds.specs.declared.rows.slot.SlotRow.{SlotRow}
 use Rattle.inventory.specs.declared.words.Words.{Words}
-use Rattle.inventory.specs.declared.text.Lines.{Lines}
 use Rattle.inventory.specs.declared.fault.Field.{Field}
 use Rattle.inventory.specs.declared.fault.Field.TheVariants.{Address, Label, Gigabytes, Day}
 use Rattle.inventory.specs.declared.fault.Fault.{Fault}
@@ -110,7 +109,3 @@ pub record Cut (text line rest : List ℕ) : Type 0 where
   pub after : rest ≡ drop (length line + 1) text
   pub first : lines_of text ≡ line ∷ lines_of rest
   pub shorter : length rest < length text
-
--- the lines that an iterator has left
-abbrev pub lines_left : Lines → List (List ℕ)
-lines_left it = lines_of it.rest.now
