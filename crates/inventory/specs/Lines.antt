@@ -6,7 +6,6 @@ use Rattle.std.specs.Str.{all_ascii_digits}
 use Rattle.std.specs.Str.Parse.{digits_value}
 use Rattle.kinds.specs.Labels.{reading}
 use Rattle.kinds.specs.declared.rows.slot.SlotRow.{SlotRow}
-use Rattle.inventory.specs.declared.words.Words.{Words}
 use Rattle.inventory.specs.declared.fault.Field.{Field}
 use Rattle.inventory.specs.declared.fault.Field.TheVariants.{Address, Label, Gigabytes, Day}
 use Rattle.inventory.specs.declared.fault.Fault.{Fault}
@@ -32,9 +31,6 @@ gap b = b == 32 || b == 9 || b == 13
 abbrev pub Computes : (ℕ → Bool → Type 0) → (ℕ → Bool) → Type 0
 Computes says p = (b : ℕ) (r : Bool) → says b r → r ≡ p b
 
-abbrev pub in_word : ℕ → Bool
-in_word b = not (gap b)
-
 -- every byte but the one that starts a comment
 abbrev pub in_text : ℕ → Bool
 in_text b = not (b == 35)
@@ -46,23 +42,6 @@ in_line b = not (b == 10)
 -- the longest runs of bytes that are no gap
 abbrev pub words : List ℕ → List (List ℕ)
 words bs = filter (λ w. not (is_empty w)) (slice_split gap bs)
-
--- the first word, and what stands after it
-abbrev pub first_word : List ℕ → List ℕ
-first_word bs = take_while in_word (past_front gap bs)
-
-abbrev pub after_word : List ℕ → List ℕ
-after_word bs = past_front in_word (past_front gap bs)
-
--- a text that has a word, cut after its first one
-pub record Split (text word rest : List ℕ) : Type 0 where
-  pub front : word ≡ first_word text
-  pub after : rest ≡ after_word text
-  pub first : words text ≡ word ∷ words rest
-
--- the words that an iterator has left
-abbrev pub words_left : Words → List (List ℕ)
-words_left it = words it.rest.now
 
 -- a word as the number of a field; an empty one is missing
 abbrev pub number_in : Field → ℕ → List ℕ → Result ℕ Fault

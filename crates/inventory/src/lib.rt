@@ -11,4 +11,3 @@ pub mod show;
 #[cfg(test)]
 mod tests;
 pub mod text;
-mod words;

@@ -1,13 +1,11 @@
 // What one line of an inventory says.
-ghost use Rattle.std.specs.Prelude.{◌≡◌, ◌≤◌, true, false, [], ◌∷◌, drop, slice_index_or, IfOk, IfSome, MatchOption, MatchResult};
+ghost use Rattle.std.specs.Prelude.{◌≡◌, ◌≤◌, true, false, IfOk, IfSome, MatchOption};
 ghost use Rattle.std.specs.Str.{all_ascii_digits};
-ghost use Rattle.inventory.specs.declared.fault.Fault.TheVariants.{Missing};
 ghost use Rattle.kinds.specs.Labels.{is_label};
-ghost use Rattle.inventory.specs.Lines.{number_in, label_in, row_of, words, words_left, meaning};
+ghost use Rattle.inventory.specs.Lines.{number_in, label_in, row_of, words, meaning};
 
 use crate::fault::{Fault, Field};
-use crate::front::split_front;
-use crate::words::Words;
+use crate::front::{is_gap, split_front};
 use kinds::label::Label;
 use kinds::rows::slot::SlotRow;
 
@@ -53,45 +51,22 @@ pub fn label_number(word: &[u8]) -> Result<u64, Fault>
     Ok(Label::try_from(word)?.into())
 }
 
-// Here, since only a line has fields.
-impl<'a> Words<'a> {
-    // The next word, which is for a field.
-    fn next_word(&mut self, field: Field) -> Result<&'a [u8], Fault>
-        ensures word { MatchResult result (λ word. words_left self.old ≡ word.now ∷ words_left self.new) (λ fault. (words_left self.old ≡ []) × (fault ≡ Missing field)) }
-        ensures rest { words_left self.new ≡ drop 1 (words_left self.old) }
-    {
-        self.next().ok_or(Fault::Missing { field })
-    }
-
-    // The next word as the number of a field.
-    fn next_number(&mut self, field: Field, most: u32) -> Result<u32, Fault>
-        ensures value { result ≡ number_in field most (slice_index_or (words_left self.old) 0 []) }
-        ensures within { IfOk result (λ n. n ≤ most) }
-        ensures rest { words_left self.new ≡ drop 1 (words_left self.old) }
-    {
-        number(self.next_word(field)?, field, most)
-    }
-
-    // The next word as the number of a label.
-    fn next_label(&mut self) -> Result<u64, Fault>
-        ensures value { result ≡ label_in (slice_index_or (words_left self.old) 0 []) }
-        ensures labelled { IfOk result (λ n. is_label n ≡ true) }
-        ensures rest { words_left self.new ≡ drop 1 (words_left self.old) }
-    {
-        label_number(self.next_word(Field::Label)?)
-    }
-}
-
 // The row that the words of a text write, or the first fault. A comment is cut off before.
 pub fn read_row(text: &[u8]) -> Result<SlotRow, Fault>
     ensures value { result ≡ row_of (words text.now) }
     ensures labelled { IfOk result (λ row. is_label row.label ≡ true) }
 {
-    let mut words = Words::new(text);
-    let address = words.next_number(Field::Address, 65535)?;
-    let label = words.next_label()?;
-    let gigabytes = words.next_number(Field::Gigabytes, 4294967295)?;
-    let day = words.next_number(Field::Day, 65535)?;
+    let mut words = text
+        .split(|byte| is_gap(*byte))
+        .filter(|word| !word.is_empty());
+    let address = number(words.next().unwrap_or_default(), Field::Address, 65535)?;
+    let label = label_number(words.next().unwrap_or_default())?;
+    let gigabytes = number(
+        words.next().unwrap_or_default(),
+        Field::Gigabytes,
+        4294967295,
+    )?;
+    let day = number(words.next().unwrap_or_default(), Field::Day, 65535)?;
     if words.next().is_some() {
         return Err(Fault::ExtraWord);
     }
@@ -110,7 +85,7 @@ pub fn read_line(line: &[u8]) -> Line
     ensures labelled { IfOk result (λ found. IfSome found (λ row. is_label row.label ≡ true)) }
 {
     let (text, _) = split_front(line, |byte| byte != b'#');
-    if Words::new(text).next().is_none() {
+    if text.iter().all(|byte| is_gap(*byte)) {
         return Ok(None);
     }
     read_row(text).map(Some)
