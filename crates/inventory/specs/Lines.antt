@@ -1,5 +1,6 @@
 -- The words of a line, what a line says, and the lines of a text.
 use Rattle.std.specs.Prelude.{◌≡◌, ℕ, ◌+◌, ◌<◌, Bool, cond, not, ◌||◌, List, [], ◌∷◌, length, drop, Option, Some, None, Ok, Err, Result, ◌==◌, nat_lt, slice_index_or}
+use Rattle.std.specs.Borrow.{Bor}
 use Rattle.std.specs.Result.{result_map_both}
 use Rattle.std.specs.List.{prefix_len, take_while, filter, slice_split}
 use Rattle.std.specs.Str.{all_ascii_digits}
@@ -42,6 +43,11 @@ in_line b = not (b == 10)
 -- the longest runs of bytes that are no gap
 abbrev pub words : List ℕ → List (List ℕ)
 words bs = filter (λ w. not (is_empty w)) (slice_split gap bs)
+
+-- the bytes of a word, none where there is no word
+abbrev pub word_or_empty : Option (Bor (List ℕ)) → List ℕ
+word_or_empty None = []
+word_or_empty (Some w) = w.now
 
 -- a word as the number of a field; an empty one is missing
 abbrev pub number_in : Field → ℕ → List ℕ → Result ℕ Fault

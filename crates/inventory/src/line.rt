@@ -2,7 +2,7 @@
 ghost use Rattle.std.specs.Prelude.{◌≡◌, ◌≤◌, true, false, IfOk, IfSome, MatchOption};
 ghost use Rattle.std.specs.Str.{all_ascii_digits};
 ghost use Rattle.kinds.specs.Labels.{is_label};
-ghost use Rattle.inventory.specs.Lines.{number_in, label_in, row_of, words, meaning};
+ghost use Rattle.inventory.specs.Lines.{number_in, label_in, word_or_empty, row_of, words, meaning};
 
 use crate::fault::{Fault, Field};
 use crate::front::{is_gap, split_front};
@@ -51,6 +51,24 @@ pub fn label_number(word: &[u8]) -> Result<u64, Fault>
     Ok(Label::try_from(word)?.into())
 }
 
+// A word, if there is one, as the number of a field.
+fn number_of(word: Option<&[u8]>, field: Field, most: u32) -> Result<u32, Fault>
+    ensures value { result ≡ number_in field most (word_or_empty word.entry) }
+    ensures within { IfOk result (λ n. n ≤ most) }
+{
+    number(word.ok_or(Fault::Missing { field })?, field, most)
+}
+
+// A word, if there is one, as the number of a label.
+fn label_of(word: Option<&[u8]>) -> Result<u64, Fault>
+    ensures value { result ≡ label_in (word_or_empty word.entry) }
+    ensures labelled { IfOk result (λ n. is_label n ≡ true) }
+{
+    label_number(word.ok_or(Fault::Missing {
+        field: Field::Label,
+    })?)
+}
+
 // The row that the words of a text write, or the first fault. A comment is cut off before.
 pub fn read_row(text: &[u8]) -> Result<SlotRow, Fault>
     ensures value { result ≡ row_of (words text.now) }
@@ -59,14 +77,10 @@ pub fn read_row(text: &[u8]) -> Result<SlotRow, Fault>
     let mut words = text
         .split(|byte| is_gap(*byte))
         .filter(|word| !word.is_empty());
-    let address = number(words.next().unwrap_or_default(), Field::Address, 65535)?;
-    let label = label_number(words.next().unwrap_or_default())?;
-    let gigabytes = number(
-        words.next().unwrap_or_default(),
-        Field::Gigabytes,
-        4294967295,
-    )?;
-    let day = number(words.next().unwrap_or_default(), Field::Day, 65535)?;
+    let address = number_of(words.next(), Field::Address, 65535)?;
+    let label = label_of(words.next())?;
+    let gigabytes = number_of(words.next(), Field::Gigabytes, 4294967295)?;
+    let day = number_of(words.next(), Field::Day, 65535)?;
     if words.next().is_some() {
         return Err(Fault::ExtraWord);
     }
