@@ -23,7 +23,7 @@ fn digits(word: &[u8]) -> Option<&str>
     }
 }
 
-// A word as the number of a field. An empty one is missing.
+// A word as the number of a field. An empty one is missing: the program hands its argument on as it is.
 pub fn number(word: &[u8], field: Field, most: u32) -> Result<u32, Fault>
     ensures value { result ≡ number_in field most word.now }
     ensures within { IfOk result (λ n. n ≤ most) }
@@ -38,7 +38,7 @@ pub fn number(word: &[u8], field: Field, most: u32) -> Result<u32, Fault>
     }
 }
 
-// A word as the number of a label. An empty one is missing.
+// A word as the number of a label. An empty one is missing, as for `number`.
 pub fn label_number(word: &[u8]) -> Result<u64, Fault>
     ensures value { result ≡ label_in word.now }
     ensures labelled { IfOk result (λ n. is_label n ≡ true) }

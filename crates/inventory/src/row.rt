@@ -6,7 +6,7 @@ use kinds::label::Label;
 use kinds::rows::slot::SlotRow;
 use std::alloc::{AllocError, Global};
 
-// The eight bytes of a label, or question marks where the number is no label. Bytes and no `Display`, for the same reason as below.
+// The eight bytes of a label, or question marks where the number is no label.
 pub fn label_text(number: u64) -> [u8; 8]
     ensures { result ≡ label_text number }
 {
@@ -16,8 +16,8 @@ pub fn label_text(number: u64) -> [u8; 8]
     }
 }
 
-// The line that is read as this row; one with question marks where the row's number is no label. A value and no `Display`,
-// since its clause says that it reads back.
+// The line that is read as this row; one with question marks where the row's number is no label. No `Display`:
+// the row is another crate's type, and a wrapper around it would be no plainer.
 pub fn write_row(heap: Global, row: SlotRow) -> Result<String, AllocError>
     ensures text { IfOk result (λ s. string_bytes s ≡ row_text row) }
     ensures back { ReadsBack row }

@@ -20,7 +20,8 @@ pub trait Kind: Copy {
     fn key(self) -> Self::Key
         ensures { result ≡ ops.key self };
 
-    // Whether `a` stands before `b` in a map.
+    // Whether `a` stands before `b` in a map. No `Ord` is asked of keys and no `Eq` of entries: a kind may bring an order of its own,
+    // and to write these two once would cost each kind two laws that tie `<` and `==` to `ops`.
     fn less(a: Self::Key, b: Self::Key) -> bool
         ensures { result ≡ ops.less a b };
 

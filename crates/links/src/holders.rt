@@ -1,5 +1,6 @@
 // References to trees: counts go up where a tree is adopted and down where it is released, and nowhere else.
 // `adopt` and `release` are inlined into their recursions, so that a missing side costs no call.
+// A root is a link, 0 for the empty tree. What holds of the table and its holders is the caller's, who alone knows them all, and stands in clauses.
 ghost use Rattle.std.specs.Prelude.{ℕ, ◌+◌, ◌^◌, ◌<◌, ◌≤◌, List, ◌∷◌, length};
 ghost use Rattle.links.specs.Cells.{levels_of};
 ghost use Rattle.links.specs.Counted.{Counted};

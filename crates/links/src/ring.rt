@@ -1,4 +1,5 @@
-// The cells as a ring. A call takes the unused cells that lie ahead of a cursor, each at most once.
+// The cells as a ring. A call takes the unused cells that lie ahead of a cursor, each at most once. The cursor does not hold the table,
+// which is written between two takes, so `few` and `ring` stand in clauses.
 ghost use Rattle.std.specs.Prelude.{◌≡◌, ℕ, ◌-◌, ◌<◌, ◌≤◌, length, IfSome, IfNone};
 ghost use Rattle.links.specs.Ring.{OnRing, Unused, steps, avail_count, Begun, Took};
 

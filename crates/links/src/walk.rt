@@ -11,7 +11,8 @@ use crate::link::Link;
 const LEVELS: usize = 22;
 
 // The cells that wait, the next one last. After each comes the tree on its right.
-// An array with its length, as the rule on walks has it. With the kit's `ArrayVec` a walk was measured to take about half as long again.
+// An array with its length: with the kit's `ArrayVec` a walk was measured to take about half as long again.
+// It does not hold the table, so that what calls it can write there between two steps.
 #[derive(Debug, Drop)]
 pub struct Walk {
     stack: [u16; LEVELS],

@@ -1,9 +1,10 @@
-use Rattle.std.proofs.Common.{◌≡◌, ◌+◌, ◌*◌, ◌<◌, ◌∷◌, sym, ◌∙◌, arith}
+use Rattle.std.proofs.Common.{ℕ, ◌≡◌, ◌+◌, ◌*◌, ◌<◌, ◌∷◌, sym, ◌∙◌, arith}
 use Rattle.links.specs.Cells.{levels_of}
 use Rattle.links.proofs.Counting.{held_live}
-use Rattle.links.proofs.Holding.{released_none, released_held, last, handed, left_falls, right_falls, released_last}
+use Rattle.links.proofs.Holding.{Last, released_none, released_held, last, handed, left_falls, right_falls, released_last}
 use Rattle.links.proofs.Tables.{live_high}
 use Rattle.links.proofs.holders.+release.Goals as goal
+use Rattle.links.proofs.holders.+release.Goals.{release_cell-After-sides-left}
 
 pub release-release_cell-requires : goal.release-release_cell-requires
 release-release_cell-requires t c =
@@ -22,6 +23,12 @@ release_cell-returns-then-lower t c =
     released_held c.args.links.now c.lower.new.links c.args.cell c.requires.low c.requires.high cut.put (sym cut.held ∙ c.if-lower.true)
 
 -- the cell's last reference goes, and its two links are held in its place
+here : (t : ℕ) (c : release_cell-After-sides-left t) → Last c.args.links.now c.lower.new.links c.args.cell c.sides-left.result.0 c.sides-left.result.1
+here t c =
+    let cut = c.lower.ensures in
+    last c.args.links.now c.lower.new.links c.args.cell c.requires.low c.requires.high cut.put (sym cut.held ∙ c.if-lower.false) c.requires.counted
+    c.link_of-link.result c.link_of-link.ensures c.sides-left.result.0 c.sides-left.result.1 c.sides-left.ensures.left c.sides-left.ensures.right
+
 pub release_cell-release-freed-requires : goal.release_cell-release-freed-requires
 release_cell-release-freed-requires t c =
     let ls = c.args.links.now in
@@ -29,8 +36,7 @@ release_cell-release-freed-requires t c =
     let l = c.sides-left.result.0 in
     let r = c.sides-left.result.1 in
     let cut = c.lower.ensures in
-    let p = last ls ms c.args.cell c.requires.low c.requires.high cut.put (sym cut.held ∙ c.if-lower.false) c.requires.counted
-    c.link_of-link.result c.link_of-link.ensures l r c.sides-left.ensures.left c.sides-left.ensures.right in
+    let p = here t (goal.at.release_cell-release-freed-requires t c).After-sides-left in
     let m : 2 * levels_of ls c.args.cell ≡ t = c.decreases in
     let falls = left_falls ls ms c.args.cell l r p in
     let less : 2 * levels_of ms l + 1 < t = omega arith in
@@ -44,8 +50,7 @@ release_cell-release-more-requires t c =
     let l = c.sides-left.result.0 in
     let r = c.sides-left.result.1 in
     let cut = c.lower.ensures in
-    let p = last ls ms c.args.cell c.requires.low c.requires.high cut.put (sym cut.held ∙ c.if-lower.false) c.requires.counted
-    c.link_of-link.result c.link_of-link.ensures l r c.sides-left.ensures.left c.sides-left.ensures.right in
+    let p = here t (goal.at.release_cell-release-more-requires t c).After-sides-left in
     let first = c.release-freed.ensures in
     let ns = c.release-freed.new.links in
     let m : 2 * levels_of ls c.args.cell ≡ t = c.decreases in
@@ -57,6 +62,5 @@ release_cell-release-more-requires t c =
 pub release_cell-returns : goal.release_cell-returns
 release_cell-returns t c =
     let cut = c.lower.ensures in
-    let p = last c.args.links.now c.lower.new.links c.args.cell c.requires.low c.requires.high cut.put (sym cut.held ∙ c.if-lower.false) c.requires.counted
-    c.link_of-link.result c.link_of-link.ensures _ _ c.sides-left.ensures.left c.sides-left.ensures.right in
+    let p = here t (goal.at.release_cell-returns t c).After-sides-left in
     released_last _ _ _ _ _ p _ _ c.release-freed.ensures _ _ c.release-more.ensures
