@@ -1,4 +1,4 @@
--- The place of a key among rising keys: a search by halves finds it, and an entry is put there.
+-- The place of a key among rising keys: std's `partition_point` finds it, and an entry is put there.
 use Rattle.std.proofs.Common.{◌≡◌, ℕ, zero, suc, ◌<◌, ◌≤◌, Bool, true, false, cond, List, [], ◌∷◌, length, get_or, set, is_some, Some, None, sym, refl, ap, subst, inl, inr, arith}
 use Rattle.std.proofs.lemmas.Bool.{cases_Bool, cases_eq}
 use Rattle.std.specs.List.{insert}
@@ -13,12 +13,6 @@ use Rattle.book.proofs.Orders.{Above, not_back, all_above, find_above}
 use Rattle.book.proofs.Rising.{rising_put}
 
 module _ {E K S L : Type 0} (o : Ops E K S L) where
-  -- every key before a place is less than k, and none from it on is
-  pub record Parted (k : K) (xs : List E) (place : ℕ) : Type 0 where
-    pub inside : place ≤ length xs
-    pub below : (i : ℕ) (d : E) → i < place → o.less (o.key (get_or xs i d)) k ≡ true
-    pub above : (i : ℕ) (d : E) → place ≤ i → i < length xs → o.less (o.key (get_or xs i d)) k ≡ false
-
   rises_at : (xs : List E) → Rising o xs → (i j : ℕ) (d e : E) → i < j → j < length xs → o.less (o.key (get_or xs i d)) (o.key (get_or xs j e)) ≡ true
   rises_at [] r i j d e h l = absurd (omega arith)
   rises_at (x ∷ xs) r i zero d e h l = absurd (omega arith)
@@ -40,15 +34,15 @@ module _ {E K S L : Type 0} (o : Ops E K S L) where
         | inr e ↦ omega (arith, kept_cons (smaller k) false x xs e, rank_le k xs)
       ]
 
-  -- that place is the rank
-  ranked : (k : K) (xs : List E) (place : ℕ) → Parted k xs place → place ≡ rank o k xs
-  ranked k [] place n = omega (arith, n.inside)
-  ranked k (x ∷ xs) zero n =
-      let rest = ranked k xs 0 (record { inside = omega arith; below = λ i d h. absurd (omega arith); above = λ i d h l. n.above (suc i) d (omega arith) (omega arith) }) in
-      omega (arith, kept_cons (smaller k) false x xs (n.above 0 x (omega arith) (omega arith)))
-  ranked k (x ∷ xs) (suc place) n =
-      let rest = ranked k xs place (record { inside = omega (arith, n.inside); below = λ i d h. n.below (suc i) d (omega arith); above = λ i d h l. n.above (suc i) d (omega arith) (omega arith) }) in
-      omega (arith, kept_cons (smaller k) true x xs (n.below 0 x (omega arith)))
+  -- the place between the smaller keys and the others is the rank
+  pub ranked : (k : K) (xs : List E) (place : ℕ) → place ≤ length xs → IsPartitionPoint (λ x. smaller k x ≡ true) (λ x. smaller k x ≡ false) xs place → place ≡ rank o k xs
+  ranked k [] place inside parts = omega arith
+  ranked k (x ∷ xs) zero inside parts =
+      let rest = ranked k xs 0 (omega arith) (λ i d low high. absurd (omega arith), λ i d low high. parts.1 (suc i) d (omega arith) (omega arith)) in
+      omega (arith, kept_cons (smaller k) false x xs (parts.1 0 x (omega arith) (omega arith)))
+  ranked k (x ∷ xs) (suc place) inside parts =
+      let rest = ranked k xs place (omega arith) (λ i d low high. parts.0 (suc i) d (omega arith) (omega arith), λ i d low high. parts.1 (suc i) d (omega arith) (omega arith)) in
+      omega (arith, kept_cons (smaller k) true x xs (parts.0 0 x (omega arith) (omega arith)))
 
   module _ (laws : Laws o) (k : K) where
     -- an entry that is not before k has nothing before k after it
@@ -127,6 +121,3 @@ module _ {E K S L : Type 0} (o : Ops E K S L) (laws : Laws o) (k : K) (xs : List
         | inl e ↦ subst (λ n. smaller o k (get_or xs n d) ≡ true) (sym e) less
         | inr ne ↦ laws.order.transitive (o.key (get_or xs i d)) (o.key (get_or xs j d)) k (rises_at o xs rising i j d d (omega arith) l) less
       ]
-
-  pub is_rank : (place : ℕ) → place ≤ length xs → IsPartitionPoint (λ x. smaller o k x ≡ true) (λ x. smaller o k x ≡ false) xs place → place ≡ rank o k xs
-  is_rank place inside parts = ranked o k xs place (record { inside = inside; below = λ i d h. parts.0 i d (omega arith) h; above = λ i d h l. parts.1 i d h l })
