@@ -4,7 +4,7 @@
     tools/places.py        the counts
     tools/places.py -v     each place too
 
-Tests (src/tests.rt) are left out. It goes by text: what it finds is where to look, and the page says what was done with each.
+Tests (src/tests.rt and src/tests/) are left out. It goes by text: what it finds is where to look, and the page says what was done with each.
 """
 
 import collections
@@ -13,7 +13,7 @@ import re
 import sys
 
 VERBOSE = "-v" in sys.argv[1:]
-SOURCES = sorted(f for f in glob.glob("crates/*/src/**/*.rt", recursive=True) if not f.endswith("tests.rt"))
+SOURCES = sorted(f for f in glob.glob("crates/*/src/**/*.rt", recursive=True) if not f.endswith("tests.rt") and "/src/tests/" not in f)
 
 
 def lines(pattern, but=None):

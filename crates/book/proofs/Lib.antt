@@ -2,6 +2,7 @@ pub mod Comparing
 pub mod Declining
 pub mod Finding
 pub mod Halving
+pub mod Inserting
 pub mod Kept
 pub mod Orderly
 pub mod Orders
@@ -10,3 +11,4 @@ pub mod Places
 pub mod Placing
 pub mod Rising
 pub mod Summing
+pub mod Sweeping

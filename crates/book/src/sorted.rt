@@ -1,5 +1,6 @@
 // Entries side by side in the order of their keys: the plainest form of an ordered map.
-ghost use Rattle.std.specs.Prelude.{◌≡◌, [], is_some, IfOk, MatchResult};
+ghost use Rattle.std.specs.Prelude.{◌≡◌, ◌≤◌, [], length, is_some, IfOk, MatchResult};
+ghost use Rattle.std.specs.List.{insert};
 ghost use Rattle.book.specs.Lists as lists;
 ghost use Rattle.book.specs.Sorted.{StandsAt, GoesTo};
 
@@ -53,7 +54,7 @@ impl<K: Kind> SortedVec<K> {
                 Ok(true)
             }
             Err(place) => {
-                self.entries.insert(place, entry)?;
+                insert(&mut self.entries, place, entry)?;
                 Ok(false)
             }
         }
@@ -79,22 +80,34 @@ impl<K: Kind> SortedVec<K> {
     }
 }
 
+// Inserts an entry at a place. Without memory nothing changes. The entries behind are moved as one block, where std's `insert` moves them one by one.
+fn insert<E: Copy>(entries: &mut Vec<E>, place: usize, entry: E) -> Result<(), AllocError>
+    requires { place ≤ length entries.old.items }
+    ensures { MatchResult result (λ _. entries.new.items ≡ insert entries.old.items place entry) (λ _. entries.new.items ≡ entries.old.items) }
+{
+    let end = entries.len();
+    entries.push(entry)?;
+    entries.copy_within(place..end, place + 1);
+    entries[place] = entry;
+    Ok(())
+}
+
 // The sum of all entries, in their order.
 pub fn total<K: Kind>(entries: &[K]) -> K::Sum
     ensures { result ≡ lists.total K.Kind.ops entries.now }
 {
-    entries
-        .iter()
-        .fold(K::NEUTRAL, |sum, entry| K::combine(sum, entry.measure()))
+    entries.iter().fold(K::neutral(), |sum, entry| K::combine(sum, entry.measure()))
 }
 
-// The entries whose measure passes a limit, in their order.
+// The entries whose measure passes a limit, in their order. A loop: `filter`, `copied` and `collect` took half as long again where most pass.
 pub fn sift<K: Kind>(heap: Global, entries: &[K], limit: K::Limit) -> Result<Vec<K>, AllocError>
     ensures { IfOk result (λ v. v.items ≡ lists.sift K.Kind.ops limit entries.now) }
 {
-    entries
-        .iter()
-        .filter(|entry| K::passes(entry.measure(), limit))
-        .copied()
-        .collect(heap)
+    let mut passing = Vec::new(heap);
+    for entry in entries {
+        if K::passes(entry.measure(), limit) {
+            passing.push(*entry)?;
+        }
+    }
+    Ok(passing)
 }

@@ -110,10 +110,10 @@ module _ (n : ℕ) where
 
 -- the four words of a line, read
 module _ (a l g d : List ℕ) (x y z : ℕ) (is_x : number_in Address 65535 a ≡ Ok x) (is_y : number_in Gigabytes 4294967295 g ≡ Ok y) (is_z : number_in Day 65535 d ≡ Ok z) where
-  four_read : (n : ℕ) → label_in l ≡ Ok n → line_of (a ∷ l ∷ g ∷ d ∷ []) ≡ Ok (Some (record { label = n; gigabytes = y; address = x; day = z }))
+  four_read : (n : ℕ) → label_in l ≡ Ok n → line_of (a ∷ l ∷ g ∷ d ∷ []) ≡ Ok (record { label = n; gigabytes = y; address = x; day = z })
   four_read n is_n = rw (is_x, is_n, is_y, is_z)
 
-  four_refused : (fault : Fault) → label_in l ≡ Err fault → line_of (a ∷ l ∷ g ∷ d ∷ []) ≡ Err fault
+  four_refused : (fault : Fault) → label_in l ≡ Err fault → line_of (a ∷ l ∷ g ∷ d ∷ []) ≡ Err (Some fault)
   four_refused fault is_fault = rw (is_x, is_fault)
 
 module _ (row : SlotRow) (address : row.address < 65536) (label : row.label < 2 ^ 64) (gigabytes : row.gigabytes < 4294967296) (day : row.day < 65536) where
@@ -158,8 +158,8 @@ module _ (row : SlotRow) (address : row.address < 65536) (label : row.label < 2 
       elim (cases_Bool (is_label row.label)) [
         | inl is ↦
             split ∙ four_read a l g d row.address row.gigabytes row.day is_a is_g is_d row.label (label_read row.label label is)
-            ∙ sym (cond-true (is_label row.label) (Ok (Some row)) (Err (NotALabel (WrongByte 0))) is)
+            ∙ sym (cond-true (is_label row.label) (Ok row) (Err (Some (NotALabel (WrongByte 0)))) is)
         | inr none ↦
             split ∙ four_refused a l g d row.address row.gigabytes row.day is_a is_g is_d (NotALabel (WrongByte 0)) (marks_refused row.label none)
-            ∙ sym (cond-false (is_label row.label) (Ok (Some row)) (Err (NotALabel (WrongByte 0))) none)
+            ∙ sym (cond-false (is_label row.label) (Ok row) (Err (Some (NotALabel (WrongByte 0)))) none)
       ]

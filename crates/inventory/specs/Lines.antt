@@ -1,12 +1,13 @@
 -- The words of a line, what a line says, and the lines of a text.
 use Rattle.std.specs.Prelude.{◌≡◌, ℕ, ◌+◌, ◌<◌, Bool, cond, not, ◌||◌, List, [], ◌∷◌, length, drop, Option, Some, None, Ok, Err, Result, ◌==◌, nat_lt, slice_index_or}
-use Rattle.std.specs.Borrow.{Bor}
 use Rattle.std.specs.Result.{result_map_both}
 use Rattle.std.specs.List.{prefix_len, take_while, filter, slice_split}
 use Rattle.std.specs.Str.{all_ascii_digits}
 use Rattle.std.specs.Str.Parse.{digits_value}
 use Rattle.kinds.specs.Labels.{reading}
 use Rattle.kinds.specs.declared.rows.slot.SlotRow.{SlotRow}
+use Rattle.inventory.specs.declared.words.Words.{Words}
+use Rattle.inventory.specs.declared.text.Lines.{Lines}
 use Rattle.inventory.specs.declared.fault.Field.{Field}
 use Rattle.inventory.specs.declared.fault.Field.TheVariants.{Address, Label, Gigabytes, Day}
 use Rattle.inventory.specs.declared.fault.Fault.{Fault}
@@ -32,6 +33,9 @@ gap b = b == 32 || b == 9 || b == 13
 abbrev pub Computes : (ℕ → Bool → Type 0) → (ℕ → Bool) → Type 0
 Computes says p = (b : ℕ) (r : Bool) → says b r → r ≡ p b
 
+abbrev pub in_word : ℕ → Bool
+in_word b = not (gap b)
+
 -- every byte but the one that starts a comment
 abbrev pub in_text : ℕ → Bool
 in_text b = not (b == 35)
@@ -44,10 +48,22 @@ in_line b = not (b == 10)
 abbrev pub words : List ℕ → List (List ℕ)
 words bs = filter (λ w. not (is_empty w)) (slice_split gap bs)
 
--- the bytes of a word, none where there is no word
-abbrev pub word_or_empty : Option (Bor (List ℕ)) → List ℕ
-word_or_empty None = []
-word_or_empty (Some w) = w.now
+-- the first word, and what stands after it
+abbrev pub first_word : List ℕ → List ℕ
+first_word bs = take_while in_word (past_front gap bs)
+
+abbrev pub after_word : List ℕ → List ℕ
+after_word bs = past_front in_word (past_front gap bs)
+
+-- a text that has a word, cut after its first one
+pub record Split (text word rest : List ℕ) : Type 0 where
+  pub front : word ≡ first_word text
+  pub after : rest ≡ after_word text
+  pub first : words text ≡ word ∷ words rest
+
+-- the words that an iterator has left
+abbrev pub words_left : Words → List (List ℕ)
+words_left it = words it.rest.now
 
 -- a word as the number of a field; an empty one is missing
 abbrev pub number_in : Field → ℕ → List ℕ → Result ℕ Fault
@@ -66,13 +82,13 @@ row_of ws =
     and_then (number_in Gigabytes 4294967295 (slice_index_or ws 2 [])) (λ g. and_then (number_in Day 65535 (slice_index_or ws 3 [])) (λ d.
     cond (is_empty (slice_index_or ws 4 [])) (Ok (record { label = l; gigabytes = g; address = a; day = d })) (Err ExtraWord)))))
 
--- what a line says: a row, nothing where it has no word, or why it is refused
+-- what a line says: a row, or why there is none: the fault where it is refused, and none where it has no word
 abbrev pub Said : Type 0
-Said = Result (Option SlotRow) Fault
+Said = Result SlotRow (Option Fault)
 
 abbrev pub line_of : List (List ℕ) → Said
-line_of [] = Ok None
-line_of (w ∷ ws) = result_map_both (λ row. Some row) (λ fault. fault) (row_of (w ∷ ws))
+line_of [] = Err None
+line_of (w ∷ ws) = result_map_both (λ row. row) (λ fault. Some fault) (row_of (w ∷ ws))
 
 -- what a line says: its words, with what stands from the first # on cut off
 abbrev pub meaning : List ℕ → Said
@@ -94,3 +110,7 @@ pub record Cut (text line rest : List ℕ) : Type 0 where
   pub after : rest ≡ drop (length line + 1) text
   pub first : lines_of text ≡ line ∷ lines_of rest
   pub shorter : length rest < length text
+
+-- the lines that an iterator has left
+abbrev pub lines_left : Lines → List (List ℕ)
+lines_left it = lines_of it.rest.now

@@ -11,8 +11,8 @@ use Rattle.inventory.specs.declared.note.Remark.TheVariants.{Faulty, Repeated}
 
 -- the row that a line says, if it says one
 abbrev pub row_said : Said → Option SlotRow
-row_said (Ok found) = found
-row_said (Err fault) = None
+row_said (Ok row) = Some row
+row_said (Err why) = None
 
 -- the rows among lines, in their order
 abbrev pub rows_of : List Said → List SlotRow
@@ -20,15 +20,14 @@ rows_of ls = filter_map row_said ls
 
 -- the inventory after one more line
 abbrev pub after : Said → List SlotRow → List SlotRow
-after (Ok None) rows = rows
-after (Ok (Some row)) rows = put ghosts.ops row rows
-after (Err fault) rows = rows
+after (Ok row) rows = put ghosts.ops row rows
+after (Err why) rows = rows
 
 -- what is to be said of a line where the lines before it gave these rows
 abbrev pub remarks : Said → List SlotRow → List Remark
-remarks (Ok None) rows = []
-remarks (Ok (Some row)) rows = cond (is_some (find ghosts.ops row.address rows)) (Repeated row.address ∷ []) []
-remarks (Err fault) rows = Faulty fault ∷ []
+remarks (Ok row) rows = cond (is_some (find ghosts.ops row.address rows)) (Repeated row.address ∷ []) []
+remarks (Err None) rows = []
+remarks (Err (Some fault)) rows = Faulty fault ∷ []
 
 abbrev pub noted : ℕ → List Remark → List Note
 noted line rs = map (λ r. record { line = line; remark = r }) rs

@@ -16,4 +16,4 @@ row_text row =
 
 -- reading what was written for a row gives the row, and a refusal where its number is no label
 abbrev pub ReadsBack : SlotRow → Type 0
-ReadsBack row = meaning (row_text row) ≡ cond (is_label row.label) (Ok (Some row)) (Err (NotALabel (WrongByte 0)))
+ReadsBack row = meaning (row_text row) ≡ cond (is_label row.label) (Ok row) (Err (Some (NotALabel (WrongByte 0))))

@@ -11,3 +11,4 @@ pub mod show;
 #[cfg(test)]
 mod tests;
 pub mod text;
+mod words;

@@ -28,8 +28,7 @@ impl Stock {
         ensures notes { OnOk result (self.new.notes.items ≡ self.old.notes.items ++ noted number (remarks line self.old.rows)) }
     {
         match line {
-            Ok(None) => {}
-            Ok(Some(row)) => {
+            Ok(row) => {
                 if self.rows.put(row)? {
                     let remark = Remark::Repeated {
                         address: row.address,
@@ -40,7 +39,8 @@ impl Stock {
                     })?;
                 }
             }
-            Err(fault) => {
+            Err(None) => {}
+            Err(Some(fault)) => {
                 self.notes.push(Note {
                     line: number,
                     remark: Remark::Faulty(fault),

@@ -11,7 +11,7 @@ use std::test::Fail;
 const LABEL: u64 = 0x4130_3030_3031_4c38;
 
 fn refuses(rt: &impl Abort, line: &[u8], fault: Fault) {
-    assert_eq!(rt; read_line(line), Err(fault));
+    assert_eq!(rt; read_line(line), Err(Some(fault)));
 }
 
 fn gives(rt: &impl Abort, line: &[u8], address: u16, gigabytes: u32, day: u16) {
@@ -21,11 +21,11 @@ fn gives(rt: &impl Abort, line: &[u8], address: u16, gigabytes: u32, day: u16) {
         address,
         day,
     };
-    assert_eq!(rt; read_line(line), Ok(Some(row)));
+    assert_eq!(rt; read_line(line), Ok(row));
 }
 
 fn says_nothing(rt: &impl Abort, line: &[u8]) {
-    assert_eq!(rt; read_line(line), Ok(None));
+    assert_eq!(rt; read_line(line), Err(None));
 }
 
 #[test]

@@ -12,11 +12,6 @@ pub trait Kind: Copy {
 
     ghost ops: { Ops Self Self.Key Self.Sum Self.Limit };
 
-    // The sum of no entries.
-    const NEUTRAL: Self::Sum;
-
-    ghost NEUTRAL: { Self.Sum };
-
     fn key(self) -> Self::Key
         ensures { result ≡ ops.key self };
 
@@ -37,6 +32,10 @@ pub trait Kind: Copy {
     fn combine(a: Self::Sum, b: Self::Sum) -> Self::Sum
         ensures { result ≡ ops.combine a b };
 
+    // The sum of no entries. No constant, whose value may call no function: a sum with private fields may have no other way to be made.
+    fn neutral() -> Self::Sum
+        ensures { result ≡ ops.neutral };
+
     // One entry from two with the same key.
     fn blend(self, other: Self) -> Self
         ensures { result ≡ ops.blend self other };
@@ -45,6 +44,4 @@ pub trait Kind: Copy {
         ensures { result ≡ ops.passes sum limit };
 
     ghost lawful: { Laws ops };
-
-    ghost neutral_is: { NEUTRAL ≡ ops.neutral };
 }

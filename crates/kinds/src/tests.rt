@@ -1,9 +1,12 @@
+mod heights;
+
 use crate::booking::Booking;
 use crate::kind::Kind;
 use crate::label::Label;
 use crate::rows::booking::BookingRow;
 use crate::rows::label::LabelRow;
 use crate::rows::slot::SlotRow;
+use crate::tests::heights::Shelf;
 use std::test::Fail;
 
 // The place at which bytes are refused, and 255 where they are a label.
@@ -95,7 +98,7 @@ fn slots_sum_gigabytes_and_find_the_earliest_day(rt: HostRuntime) {
         "saturates"
     );
     assert_eq!(rt;
-        <SlotRow as Kind>::combine(<SlotRow as Kind>::NEUTRAL, (7, 65535)),
+        <SlotRow as Kind>::combine(<SlotRow as Kind>::neutral(), (7, 65535)),
         (7, 65535)
     );
     assert!(rt;
@@ -118,7 +121,7 @@ fn bookings_sum_to_the_latest_end(rt: HostRuntime) {
     };
     assert_eq!(rt;
         <BookingRow as Kind>::combine(
-            <BookingRow as Kind>::NEUTRAL,
+            <BookingRow as Kind>::neutral(),
             <BookingRow as Kind>::measure(first)
         ),
         660
@@ -148,7 +151,7 @@ fn labels_sum_to_the_bits_of_their_classes(rt: HostRuntime) {
     assert_eq!(rt;
         <LabelRow as Kind>::combine(
             <LabelRow as Kind>::measure(first),
-            <LabelRow as Kind>::NEUTRAL
+            <LabelRow as Kind>::neutral()
         ),
         5
     );
@@ -160,4 +163,15 @@ fn labels_sum_to_the_bits_of_their_classes(rt: HostRuntime) {
     assert!(rt;
         !<LabelRow as Kind>::same(first, second) & <LabelRow as Kind>::same(second, second)
     );
+}
+
+#[test]
+fn a_neutral_sum_is_made_by_a_function(rt: HostRuntime) {
+    let shelf = Shelf {
+        place: 3,
+        height: 40,
+    };
+    let sum = <Shelf as Kind>::combine(<Shelf as Kind>::neutral(), <Shelf as Kind>::measure(shelf));
+    assert_eq!(rt; sum.value(), 40);
+    assert_eq!(rt; <Shelf as Kind>::neutral().value(), 0);
 }

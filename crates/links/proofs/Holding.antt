@@ -261,7 +261,7 @@ module _ (ls : List Link) (cell l r : ℕ) (p : Fresh ls cell l r) where
       still_unused =
           neither cell (not_left ls cell p.tree.tree own) (not_right ls cell p.tree.tree own) ∙ p.unused
 
-      last_high : cell ≤ length ns
+      pub last_high : cell ≤ length ns
       last_high = omega (arith, both.len, own.stands.high)
 
       pub adopted_unused : (os : List Link) → Put ns os cell (refs_of ns cell + 1) → Adopted ls os cell (1 + made + also)

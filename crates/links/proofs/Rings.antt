@@ -192,3 +192,10 @@ module _ (ls : List Link) (from : ℕ) where
         high = omega (arith, length-drop from ls);
         refs = above c (omega arith) ∙ ap (λ k. refs_in (get_or (drop from ls) k blank)) e ∙ none blank;
       }
+
+  pub none_above : AllWithin (λ r. 0 < refs_in r) (drop from ls) 0 (length (drop from ls)) → (c : ℕ) → Unused ls c → c ≤ from
+  none_above used c u =
+      elim (cases_lt from c) [
+        | inl h ↦ absurd (omega (arith, u.high, length-drop from ls, past_used (length (drop from ls)) used c u h))
+        | inr h ↦ h
+      ]

@@ -1,4 +1,4 @@
-ghost use Rattle.std.specs.Prelude.{max, true, ◌&&◌, ◌==◌, nat_lt, refl};
+ghost use Rattle.std.specs.Prelude.{max, true, ◌&&◌, ◌==◌, nat_lt};
 ghost use Rattle.std.proofs.Common.{rules};
 
 use crate::kind::Kind;
@@ -18,10 +18,6 @@ impl Kind for BookingRow {
 
     type Limit = u32;
 
-    const NEUTRAL: u32 = 0;
-
-    ghost NEUTRAL = { 0 };
-
     ghost ops = { record {
       key = λ e. e.start;
       less = nat_lt;
@@ -35,8 +31,6 @@ impl Kind for BookingRow {
     } };
 
     ghost lawful = { Prim.search rules };
-
-    ghost neutral_is = { refl };
 
     fn key(self) -> u32 {
         self.start
@@ -56,6 +50,10 @@ impl Kind for BookingRow {
 
     fn combine(a: u32, b: u32) -> u32 {
         a.max(b)
+    }
+
+    fn neutral() -> u32 {
+        0
     }
 
     fn blend(self, other: BookingRow) -> BookingRow {

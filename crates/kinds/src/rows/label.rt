@@ -21,10 +21,6 @@ impl Kind for LabelRow {
 
     type Limit = u8;
 
-    const NEUTRAL: u8 = 0;
-
-    ghost NEUTRAL = { 0 };
-
     ghost ops = { record {
       key = λ e. e.label;
       less = nat_lt;
@@ -46,8 +42,6 @@ impl Kind for LabelRow {
       passes_either = shares_either;
     } };
 
-    ghost neutral_is = { refl };
-
     fn key(self) -> u64 {
         self.label
     }
@@ -66,6 +60,10 @@ impl Kind for LabelRow {
 
     fn combine(a: u8, b: u8) -> u8 {
         a | b
+    }
+
+    fn neutral() -> u8 {
+        0
     }
 
     fn blend(self, other: LabelRow) -> LabelRow {

@@ -1,4 +1,4 @@
-ghost use Rattle.std.specs.Prelude.{◌+◌, min, ◌&&◌, ◌==◌, nat_le, nat_lt, refl};
+ghost use Rattle.std.specs.Prelude.{◌+◌, min, ◌&&◌, ◌==◌, nat_le, nat_lt};
 ghost use Rattle.std.proofs.Common.{rules};
 
 use crate::kind::Kind;
@@ -21,10 +21,6 @@ impl Kind for SlotRow {
 
     type Limit = u16;
 
-    const NEUTRAL: (u64, u16) = (0, 65535);
-
-    ghost NEUTRAL = { (0, 65535) };
-
     ghost ops = { record {
       key = λ e. e.address;
       less = nat_lt;
@@ -38,8 +34,6 @@ impl Kind for SlotRow {
     } };
 
     ghost lawful = { Prim.search rules };
-
-    ghost neutral_is = { refl };
 
     fn key(self) -> u16 {
         self.address
@@ -59,6 +53,10 @@ impl Kind for SlotRow {
 
     fn combine(a: (u64, u16), b: (u64, u16)) -> (u64, u16) {
         (a.0.saturating_add(b.0), a.1.min(b.1))
+    }
+
+    fn neutral() -> (u64, u16) {
+        (0, 65535)
     }
 
     fn blend(self, other: SlotRow) -> SlotRow {

@@ -8,4 +8,4 @@ pub returns-clause-longest : goal.returns-clause-longest
 returns-clause-longest g c p h =
     up_to_first p c.args.bytes.now c.position.result c.unwrap_or.result
     (position_from_yields_List (λ b. not (p b)) _ _ c.position.result c.position.ensures.ran (YieldsList-from_slice c.args.bytes.now cc) (λ x b q k. search (rules, tests, h)))
-    c.unwrap_or.ensures
+    (search rules)
