@@ -87,6 +87,9 @@ fn insert<E: Copy>(entries: &mut Vec<E>, place: usize, entry: E) -> Result<(), A
 {
     let end = entries.len();
     entries.push(entry)?;
+    if place == end {
+        return Ok(());
+    }
     entries.copy_within(place..end, place + 1);
     entries[place] = entry;
     Ok(())

@@ -1,4 +1,4 @@
-use Rattle.std.proofs.Common.{◌≡◌, ◌+◌, ◌++◌, drop, is_ok, vec_items, sym, ap, ◌∙◌}
+use Rattle.std.proofs.Common.{◌≡◌, ◌+◌, ◌++◌, drop, is_ok, vec_items, sym, ap, ◌∙◌, rules}
 use Rattle.std.proofs.ResultArms.{chosen}
 use Rattle.std.specs.List.{filter}
 use Rattle.book.specs.Lists.{passing}
@@ -10,7 +10,7 @@ pub loop-entry-preserved : goal.loop-entry-preserved
 loop-entry-preserved g c =
     let p = passing g.K.Kind.ops c.args.limit in
     let x = c.entry-item.result in
-    let told : p x ≡ c.passes.result = sym (c.passes.ensures ∙ ap (λ s. g.K.Kind.ops.passes s c.args.limit) c.measure.ensures) in
+    let told : p x ≡ c.passes.result = search rules in
     let rest = filter p (drop (c.loop-entry.entry-index + 1) c.args.entries.now) in
     elim c.if-passes.branch [
       | then-passes+in_ok-push w ↦
